@@ -1,0 +1,4 @@
+pub mod Cells
+pub mod Votes
+pub mod Rows
+pub mod Order

@@ -1,0 +1,4 @@
+pub mod Counts
+pub mod Grids
+pub mod Tables
+pub mod Laws

@@ -1,0 +1,10 @@
+// What holds of the counts of any vote.
+ghost use Rattle.pairwise.specs.Laws.{Count-order-free, Table-order-free};
+
+// The order of the ballots does not matter.
+pub fn order_of_ballots_is_free() -> u8
+    ensures counts { λ _. ⌜ Count-order-free ⌝ }
+    ensures tables { λ _. ⌜ Table-order-free ⌝ }
+{
+    0
+}
