@@ -1,10 +1,11 @@
 -- The format of ballots: what stands where in the bytes, and the ballots that they hold. Assumes nothing.
 use mathlib.Core.Bool.{cond}
-use mathlib.Core.List.{List, map}
-use Prim.Native.Nat.{ℕ, _+_, _*_}
+use mathlib.Core.List.{List, _∷_, map}
+use Prim.Native.Nat.{ℕ, _+_, _*_, _/_, _%_}
 use lib.Dec.{eqb}
-use lib.ListN.{getD, take, drop}
+use lib.ListN.{length, getD, take, drop}
 use Rattle.std.specs.Iters.{counting}
+use Rattle.std.specs.Joined.{joined}
 
 -- the greatest number of candidates
 abbrev pub most-candidates : ℕ
@@ -45,3 +46,7 @@ ranks-of p = map rank-of p
 -- the ballots that the bytes hold, first to last
 abbrev pub ballots-of : List ℕ → List (List ℕ)
 ballots-of bs = map (λ i. ranks-of (ballot-bytes (candidates-in bs) bs i)) (counting 0 (ballots-in bs))
+
+-- the file of ballots of v candidates, each given by its bytes
+abbrev pub file-of : ℕ → List (List ℕ) → List ℕ
+file-of v ps = v ∷ (length ps % 256 ∷ (length ps / 256 ∷ joined (λ p. p) ps))

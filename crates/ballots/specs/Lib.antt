@@ -1,3 +1,4 @@
 pub mod Format
 pub mod Refusals
 pub mod Reading
+pub mod Laws

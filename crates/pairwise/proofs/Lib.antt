@@ -1,4 +1,4 @@
 pub mod Cells
-pub mod Votes
+pub mod Preferences
 pub mod Rows
 pub mod Order

@@ -14,9 +14,9 @@ use Rattle.pairwise.specs.declared.Pairwise.{Pairwise}
 use Rattle.pairwise.specs.Counts.{over, count, win-by}
 use Rattle.pairwise.specs.Grids.{cell, within, entry}
 
--- what the bytes of one ballot add to the count of the pair x, y
-abbrev pub vote : List ℕ → ℕ → ℕ → ℕ
-vote p = within (length p) (λ x y. cond (over unranked (ranks-of p) x y) 1 0)
+-- what the bytes of one ballot add to the count of the pair x, y: 1 where it puts x over y
+abbrev pub preference : List ℕ → ℕ → ℕ → ℕ
+preference p = within (length p) (λ x y. cond (over unranked (ranks-of p) x y) 1 0)
 
 -- each cell has n(x, y) of the ballots, and 0 where there is no such pair
 abbrev pub Counted : ℕ → List (List ℕ) → List ℕ → Type 0

@@ -4,7 +4,7 @@ ghost use Prim.Native.Nat.{ℕ, _+_, _<_, _≤_};
 ghost use lib.ListN.{length, getD};
 ghost use Rattle.ballots.specs.Format.{most-candidates, rank-of};
 ghost use Rattle.pairwise.specs.Grids.{cell, cells};
-ghost use Rattle.pairwise.specs.Tables.{vote};
+ghost use Rattle.pairwise.specs.Tables.{preference};
 use ballots::MOST_CANDIDATES;
 
 // The ranks, each less one, so that unranked is last and all keys fit a byte. Behind the last candidate
@@ -26,7 +26,7 @@ pub(crate) fn add_ballot(counts: &mut [u16], ballot: &[u8])
     requires whole { ⌜ length (now counts) ≡ cells ⌝ }
     requires few { ⌜ length (now ballot) ≤ most-candidates ⌝ }
     requires room { ⌜ ((x y : ℕ) → x < most-candidates → y < most-candidates → cell (now counts) x y < 65535) ⌝ }
-    ensures { λ _. ⌜ ((x y : ℕ) → x < most-candidates → y < most-candidates → cell (now (counts .exit)) x y ≡ cell (now (counts .entry)) x y + vote (now (ballot .entry)) x y) ⌝ }
+    ensures { λ _. ⌜ ((x y : ℕ) → x < most-candidates → y < most-candidates → cell (now (counts .exit)) x y ≡ cell (now (counts .entry)) x y + preference (now (ballot .entry)) x y) ⌝ }
 {
     let keys = keys_of(ballot);
     for x in 0..ballot.len() {

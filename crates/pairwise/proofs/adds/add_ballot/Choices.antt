@@ -5,13 +5,13 @@ use lib.Dec.{ltb}
 use lib.ListN.{getD}
 use Rattle.ballots.specs.Format.{most-candidates}
 use Rattle.pairwise.specs.Grids.{cell}
-use Rattle.pairwise.specs.Tables.{vote}
+use Rattle.pairwise.specs.Tables.{preference}
 use Rattle.pairwise.proofs.adds.add_ballot.Given as given
 
--- rows before x have the ballot's votes, the others are as they were
+-- rows before x have the ballot's preferences, the others are as they were
 abbrev pub Inv-loop-x : given.InvT-loop-x
 Inv-loop-x l =
-    ((x y : ℕ) → x < l .x → y < most-candidates → cell (l .counts) x y ≡ cell (l .entry .counts) x y + vote (l .ballot) x y)
+    ((x y : ℕ) → x < l .x → y < most-candidates → cell (l .counts) x y ≡ cell (l .entry .counts) x y + preference (l .ballot) x y)
     × ((x y : ℕ) → l .x ≤ x → y < most-candidates → cell (l .counts) x y ≡ cell (l .entry .counts) x y)
 
 -- in row x the cells before y have one more where the key of x is below theirs, all other cells are as they were

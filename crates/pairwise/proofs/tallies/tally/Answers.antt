@@ -8,7 +8,7 @@ use Rattle.ballots.specs.Format.{most-candidates}
 use Rattle.ballots.proofs.Products.{row-ends}
 use Rattle.pairwise.specs.Grids.{cells, cell}
 use Rattle.pairwise.proofs.Cells.{zeros}
-use Rattle.pairwise.proofs.Votes.{counted-none, counted-le, counted-more}
+use Rattle.pairwise.proofs.Preferences.{counted-none, counted-le, counted-more}
 use Rattle.pairwise.proofs.tallies.tally.Needs as need
 use Rattle.pairwise.proofs.tallies.tally.Needs.{in-Some, in-rest}
 

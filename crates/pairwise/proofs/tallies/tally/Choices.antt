@@ -2,7 +2,7 @@ use mathlib.Core.Path.{_≡_}
 use lib.ListN.{length}
 use Rattle.pairwise.specs.Grids.{cells}
 use Rattle.pairwise.specs.Tables.{Counted}
-use Rattle.pairwise.proofs.Votes.{first-ballots}
+use Rattle.pairwise.proofs.Preferences.{first-ballots}
 use Rattle.pairwise.proofs.tallies.tally.Given as given
 
 abbrev pub Inv-loop-i : given.InvT-loop-i

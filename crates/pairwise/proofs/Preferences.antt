@@ -15,27 +15,27 @@ use Rattle.std.proofs.shelf.Ways.{tells}
 use Rattle.ballots.specs.Format.{most-candidates, unranked, rank-of, ranks-of, ballot-bytes}
 use Rattle.pairwise.specs.Counts.{over, count}
 use Rattle.pairwise.specs.Grids.{cell, within}
-use Rattle.pairwise.specs.Tables.{vote, Counted}
+use Rattle.pairwise.specs.Tables.{preference, Counted}
 
--- the vote of a ballot between two of its candidates, by their ranks
-vote-by-rank : (p : List ℕ) (x y : ℕ) → x < length p → y < length p → vote p x y ≡ cond (ltb (rank-of (getD p x 0)) (rank-of (getD p y 0))) 1 0
+-- the preference of a ballot between two of its candidates, by their ranks
+preference-by-rank : (p : List ℕ) (x y : ℕ) → x < length p → y < length p → preference p x y ≡ cond (ltb (rank-of (getD p x 0)) (rank-of (getD p y 0))) 1 0
 unfolding over
-vote-by-rank p x y h k = rw (lt-ltb x (length p) h, lt-ltb y (length p) k, getD-map rank-of p x 0 unranked h, getD-map rank-of p y 0 unranked k)
+preference-by-rank p x y h k = rw (lt-ltb x (length p) h, lt-ltb y (length p) k, getD-map rank-of p x 0 unranked h, getD-map rank-of p y 0 unranked k)
 
-vote-none : (p : List ℕ) (x y : ℕ) → length p ≤ y → vote p x y ≡ 0
-vote-none p x y h = grind (arith, tells)
+preference-none : (p : List ℕ) (x y : ℕ) → length p ≤ y → preference p x y ≡ 0
+preference-none p x y h = grind (arith, tells)
 
 one-less : (a b c d : ℕ) → a + 1 ≡ c → b + 1 ≡ d → ltb a b ≡ ltb c d
 one-less a b c d e f = grind (arith, tells)
 
--- the vote of a ballot, by keys that are one less than its ranks and 0 behind its last candidate
-pub vote-by-key :
+-- the preference of a ballot, by keys that are one less than its ranks and 0 behind its last candidate
+pub preference-by-key :
     (p ks : List ℕ) (x y : ℕ) → ((k : ℕ) → k < length p → getD ks k 0 + 1 ≡ rank-of (getD p k 0)) →
-    ((k : ℕ) → length p ≤ k → getD ks k 0 ≡ 0) → x < length p → cond (ltb (getD ks x 0) (getD ks y 0)) 1 0 ≡ vote p x y
-vote-by-key p ks x y ranked past h =
+    ((k : ℕ) → length p ≤ k → getD ks k 0 ≡ 0) → x < length p → cond (ltb (getD ks x 0) (getD ks y 0)) 1 0 ≡ preference p x y
+preference-by-key p ks x y ranked past h =
     elim (cases-lt y (length p)) [
-      | inl k ↦ rw (vote-by-rank p x y h k) (ap (λ b. cond b 1 0) (one-less _ _ _ _ (ranked x h) (ranked y k)))
-      | inr k ↦ rw (vote-none p x y k, past y k) (rw (le-ltb (getD ks x 0) 0 (omega arith)))
+      | inl k ↦ rw (preference-by-rank p x y h k) (ap (λ b. cond b 1 0) (one-less _ _ _ _ (ranked x h) (ranked y k)))
+      | inr k ↦ rw (preference-none p x y k, past y k) (rw (le-ltb (getD ks x 0) 0 (omega arith)))
     ]
 
 -- one ballot more
@@ -68,12 +68,12 @@ counted-le v i bs cs h x y hx hy =
     elim (ltb x v && ltb y v) as (λ t. cond t (count unranked (first-ballots v bs i) x y) 0 ≤ length (first-ballots v bs i)) [ true ↦ count-le (first-ballots v bs i) x y | false ↦ omega arith ] in
     omega (arith, h x y hx hy, length-map-counting (λ j. ranks-of (ballot-bytes v bs j)) 0 i)
 
--- cells to which the votes of ballot i were added count one ballot more
+-- cells to which the preferences of ballot i were added count one ballot more
 pub counted-more : (v i : ℕ) (bs cs ds p : List ℕ) → p ≡ ballot-bytes v bs i → length p ≡ v → Counted v (first-ballots v bs i) cs
-    → ((x y : ℕ) → x < most-candidates → y < most-candidates → cell ds x y ≡ cell cs x y + vote p x y)
+    → ((x y : ℕ) → x < most-candidates → y < most-candidates → cell ds x y ≡ cell cs x y + preference p x y)
     → Counted v (first-ballots v bs (i + 1)) ds
 counted-more v i bs cs ds p e long h step x y hx hy =
-    let push : within v (count unranked (first-ballots v bs i ++ ranks-of p ∷ [])) x y ≡ within v (count unranked (first-ballots v bs i)) x y + vote p x y =
+    let push : within v (count unranked (first-ballots v bs i ++ ranks-of p ∷ [])) x y ≡ within v (count unranked (first-ballots v bs i)) x y + preference p x y =
     rw long (elim (ltb x v && ltb y v) as (λ t. cond t (count unranked (first-ballots v bs i ++ ranks-of p ∷ []) x y) 0 ≡ cond t (count unranked (first-ballots v bs i) x y) 0 + cond t (cond (over unranked (ranks-of p) x y) 1 0) 0)
     [ true ↦ count-push (first-ballots v bs i) (ranks-of p) x y | false ↦ omega arith ]) in
     rw (map-counting-more (λ j. ranks-of (ballot-bytes v bs j)) 0 i i (omega arith), sym e) (omega (arith, step x y hx hy, h x y hx hy, push))
