@@ -47,10 +47,10 @@ rows-joined v a (suc n) xs h =
     rw (t, d) (take-append-drop v (drop (a * v) xs))
 
 -- accepted are bytes with a right number of candidates that are as long as they say
-accept : (bs : List ℕ) → 1 ≤ candidates-in bs → candidates-in bs ≤ most-candidates → length bs ≡ whole-length bs → refusal bs ≡ None
+pub accept : (bs : List ℕ) → 1 ≤ candidates-in bs → candidates-in bs ≤ most-candidates → length bs ≡ whole-length bs → refusal bs ≡ None
 accept bs some few whole = grind (arith, tells)
 
-accepted : (bs : List ℕ) → refusal bs ≡ None → (1 ≤ candidates-in bs) × (candidates-in bs ≤ most-candidates) × (length bs ≡ whole-length bs)
+pub accepted : (bs : List ℕ) → refusal bs ≡ None → (1 ≤ candidates-in bs) × (candidates-in bs ≤ most-candidates) × (length bs ≡ whole-length bs)
 accepted bs h = (grind (arith, tells), grind (arith, tells), grind (arith, tells))
 
 -- behind the header

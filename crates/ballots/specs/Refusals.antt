@@ -30,6 +30,7 @@ abbrev pub lent-place : Lent → ℕ
 lent-place lent.Table = 0
 lent-place lent.Strengths = 1
 lent-place lent.Sheet = 2
+lent-place lent.Ballots = 3
 
 -- the place of a pair of candidates
 abbrev pub pair-place : ℕ → ℕ → ℕ

@@ -1,13 +1,16 @@
-// The ballots of a vote, as bytes: the header, one ballot after the other, and why bytes are refused.
+// The ballots of a vote, as bytes: the header, one ballot after the other, candidates struck off all of them, and why bytes are refused.
 mod header;
-mod laws;
+pub mod laws;
 mod reads;
 mod refusal;
+mod sets;
+mod strikes;
 
 pub use header::Header;
 pub use header::MOST_CANDIDATES;
-pub use laws::votes_are_accepted;
 pub use reads::read;
 pub use refusal::Lent;
 pub use refusal::Refusal;
 pub use refusal::RefusalDisplay;
+pub use sets::holds;
+pub use strikes::strike;

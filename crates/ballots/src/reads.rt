@@ -5,7 +5,7 @@ use crate::MOST_CANDIDATES;
 use crate::Refusal;
 
 // How many bytes the header takes.
-const HEADER_LENGTH: usize = 3;
+pub(crate) const HEADER_LENGTH: usize = 3;
 
 // The header of the ballots, or why the bytes are refused.
 pub fn read(bytes: &[u8]) -> Result<Header, Refusal>

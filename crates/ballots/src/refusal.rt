@@ -16,6 +16,7 @@ pub enum Lent {
     Table,
     Strengths,
     Sheet,
+    Ballots,
 }
 
 #[derive(Clone, Copy, PartialEq, Eq, Debug)]
@@ -62,6 +63,7 @@ impl Refusal {
             Refusal::Candidates | Refusal::Short(Lent::Table) => 0,
             Refusal::Short(Lent::Strengths) => 1,
             Refusal::Short(Lent::Sheet) => 2,
+            Refusal::Short(Lent::Ballots) => 3,
             Refusal::Draw { place } => place,
             Refusal::Path { from, to } | Refusal::Cut { from, to } => {
                 from as usize * PAIR_STRIDE + to as usize

@@ -2,3 +2,4 @@ pub mod Cells
 pub mod Preferences
 pub mod Rows
 pub mod Order
+pub mod Struck

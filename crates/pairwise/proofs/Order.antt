@@ -16,6 +16,7 @@ use Rattle.pairwise.specs.Counts.{over, count}
 use Rattle.pairwise.specs.Grids.{cell, rows, table}
 use Rattle.pairwise.specs.Tables.{Pairwise-of}
 use Rattle.pairwise.specs.Laws.{Count-order-free, Table-order-free}
+use Rattle.pairwise.proofs.Rows.{rows-same}
 
 count-is-sum : (last : ℕ) (ps : List (List ℕ)) (x y : ℕ) → count last ps x y ≡ sumBy (λ p. cond (over last p x y) 1 0) ps
 unfolding count
@@ -26,20 +27,6 @@ count-is-sum last (p ∷ ps) x y =
 pub count-order-free : Count-order-free
 count-order-free last ps qs x y h =
     count-is-sum last qs x y ∙ (sumBy-shuffled (λ p. cond (over last p x y) 1 0) ps qs h ∙ sym (count-is-sum last ps x y))
-
--- rows of equal numbers are equal
-row-same : (f g : ℕ → ℕ) (a n : ℕ) → ((y : ℕ) → y < a + n → f y ≡ g y) → map f (counting a n) ≡ map g (counting a n)
-row-same f g a zero h = refl
-row-same f g a (suc n) h = let e = h a (omega arith) in let t = row-same f g (a + 1) n (λ y l. h y (omega arith)) in rw (e, t)
-
-joined-same : (f g : ℕ → List ℕ) (a n : ℕ) → ((x : ℕ) → x < a + n → f x ≡ g x) → joined f (counting a n) ≡ joined g (counting a n)
-joined-same f g a zero h = refl
-joined-same f g a (suc n) h = let e = h a (omega arith) in let t = joined-same f g (a + 1) n (λ x l. h x (omega arith)) in rw (e, t)
-
-pub rows-same : (v : ℕ) (f g : ℕ → ℕ → ℕ) → ((x y : ℕ) → x < v → y < v → f x y ≡ g x y) → rows v f ≡ rows v g
-rows-same v f g h =
-    joined-same (λ x. map (f x) (counting 0 v)) (λ x. map (g x) (counting 0 v)) 0 v
-    (λ x xv. row-same (f x) (g x) 0 v (λ y yv. h x y (omega arith) (omega arith)))
 
 -- the table of a file's counts, by its definition
 table-is : (bs : List ℕ) (t : Pairwise) → Pairwise-of bs t → t .counts .candidates ≤ most-candidates →

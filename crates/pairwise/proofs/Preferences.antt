@@ -3,7 +3,7 @@ use mathlib.Core.Path.{_≡_, refl, sym, _∙_, ap}
 use mathlib.Core.Logic.{_⊎_, inl, inr}
 use mathlib.Core.Bool.{Bool, true, false, cond, _&&_}
 use mathlib.Core.List.{List, [], _∷_, _++_, map}
-use Prim.Native.Nat.{ℕ, _+_, _≤_, _<_}
+use Prim.Native.Nat.{ℕ, suc, _+_, _≤_, _<_}
 use native.Mathlib.Omega.{arith}
 use lib.Dec.{ltb}
 use lib.ListN.{length, getD}
@@ -77,3 +77,16 @@ counted-more v i bs cs ds p e long h step x y hx hy =
     rw long (elim (ltb x v && ltb y v) as (λ t. cond t (count unranked (first-ballots v bs i ++ ranks-of p ∷ []) x y) 0 ≡ cond t (count unranked (first-ballots v bs i) x y) 0 + cond t (cond (over unranked (ranks-of p) x y) 1 0) 0)
     [ true ↦ count-push (first-ballots v bs i) (ranks-of p) x y | false ↦ omega arith ]) in
     rw (map-counting-more (λ j. ranks-of (ballot-bytes v bs j)) 0 i i (omega arith), sym e) (omega (arith, step x y hx hy, h x y hx hy, push))
+
+-- as many ballots, each putting u over v exactly if the other puts x over y, give the same count
+pub count-same :
+    (last x y u v : ℕ) (ps qs : List (List ℕ)) → length qs ≡ length ps →
+    ((j : ℕ) → j < length ps → over last (getD ps j []) x y ≡ over last (getD qs j []) u v) → count last ps x y ≡ count last qs u v
+unfolding count
+count-same last x y u v [] [] e same = refl
+count-same last x y u v [] (q ∷ qs) e same = absurd (omega arith)
+count-same last x y u v (p ∷ ps) [] e same = absurd (omega arith)
+count-same last x y u v (p ∷ ps) (q ∷ qs) e same =
+    let first : over last p x y ≡ over last q u v = same 0 (omega arith) in
+    let rest = count-same last x y u v ps qs (omega arith) (λ j h. same (suc j) (omega arith)) in
+    rw (first, rest)

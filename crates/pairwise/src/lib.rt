@@ -1,14 +1,18 @@
 // The pairwise counts of a vote: for each pair of candidates, how many ballots put the first over the second.
+ghost use Rattle.pairwise.specs.Grids.{Bounded};
+
 mod adds;
 mod copies;
 mod grid;
-mod laws;
+mod grows;
+pub mod laws;
+mod prefers;
 mod tallies;
 mod wins;
 
 pub use grid::CELLS;
 pub use grid::Grid;
-pub use laws::order_of_ballots_is_free;
+pub use prefers::over;
 pub use tallies::tally;
 
 // The number of ballots, and n(x, y) for each pair of candidates.
@@ -16,4 +20,5 @@ pub use tallies::tally;
 pub struct Pairwise {
     pub ballots: u16,
     pub counts: Grid,
+    ghost bounded: { Bounded ballots (counts .cells) },
 }

@@ -1,5 +1,7 @@
 // Runs the count on files of its own, and prints what it answers: the gate compares that with the file stdout.
+mod files;
 mod reading;
+mod worked;
 
 use std::error::AnyError;
 
@@ -7,5 +9,6 @@ fn main(rt: LibcRuntime) -> Result<(), AnyError> {
     reading::refused(&rt)?;
     reading::counted(&rt)?;
     reading::greatest(&rt)?;
-    reading::lent(&rt)
+    reading::lent(&rt)?;
+    worked::all(&rt)
 }

@@ -40,3 +40,9 @@ loop-i-again c =
         | inr short ↦ omega (arith, h .whole, h .candidates, h .ballots, row-ends (c .loop-i .i) (c .in-Continue-header .header .ballots) v (omega arith))
       ])
     ]
+
+pub ghost-result-2 : need.ghost-result-2
+ghost-result-2 c = (
+  (λ x y h. omega (arith, counted-le (c .in-Continue-header .header .candidates) (c .loop-i .i) (now (c .args .bytes)) (c .loop-i .cells) (c .loop-i .inv .1) x y (h .0) (h .1))),
+  tt,
+)

@@ -1,0 +1,16 @@
+pub mod Compare
+pub mod Strict
+pub mod Places
+pub mod Firsts
+pub mod Meanings
+pub mod Tabled
+pub mod Maximal
+pub mod Making
+pub mod Dominating
+pub mod Monotone
+pub mod Clones
+pub mod Votes
+pub mod Pareto
+pub mod Elections
+pub mod Renumbered
+pub mod Striking

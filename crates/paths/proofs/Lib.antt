@@ -1,0 +1,9 @@
+pub mod Walks
+pub mod Via
+pub mod Pairs
+pub mod Apart
+pub mod Rows
+pub mod Crossings
+pub mod Phases
+pub mod Found
+pub mod Written
