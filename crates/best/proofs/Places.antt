@@ -1,5 +1,5 @@
 -- The full order: there is one, its first is among the best, and whoever is ahead stands before.
-use mathlib.Core.Path.{_≡_, refl, sym, ap}
+use mathlib.Core.Path.{_≡_, refl, sym, _∙_}
 use mathlib.Core.Bool.{Bool, true, false, _&&_, not}
 use mathlib.Core.List.{List, [], _∷_}
 use mathlib.Core.Logic.{_≢_, inl, inr}
@@ -50,6 +50,26 @@ module _ (ahead : ℕ → ℕ → Type 0) (before : ℕ → ℕ → Bool) where
       absurd (h .0 .unbeaten (getD xs i 0) (and-parts _ _ (row-left (without x left) xs i (h .1) (omega arith)) .0) a)
   stands-before left (x ∷ xs) (suc i) (suc j) h li lj a =
       omega (arith, stands-before (without x left) xs i j (h .1) (omega arith) (omega arith) a)
+
+-- where another relation says the same, and another tie-break of those that are left, the full order is the same
+module _ (ahead ahead′ : ℕ → ℕ → Type 0) (before before′ : ℕ → ℕ → Bool)
+    (there : (x y : ℕ) → ahead x y → ahead′ x y) (back : (x y : ℕ) → ahead′ x y → ahead x y) where
+  next-like : (left : ℕ → Bool) (x : ℕ) → ((y z : ℕ) → left y ≡ true → left z ≡ true → before y z ≡ before′ y z) →
+      Next ahead before left x → Next ahead′ before′ left x
+  next-like left x same h =
+      record {
+        is-left = h .is-left;
+        unbeaten = λ y l a. h .unbeaten y l (back y x a);
+        first = λ z l u ne. sym (same x z (h .is-left) l) ∙ h .first z l (λ y k a. u y k (there y z a)) ne;
+      }
+
+  pub full-like : (left : ℕ → Bool) (row : List ℕ) → ((y z : ℕ) → left y ≡ true → left z ≡ true → before y z ≡ before′ y z) →
+      Full-order ahead before left row → Full-order ahead′ before′ left row
+  full-like left [] same h = h
+  full-like left (x ∷ xs) same h = (
+    next-like left x same (h .0),
+    full-like (without x left) xs (λ y z ly lz. same y z (and-parts _ _ ly .0) (and-parts _ _ lz .0)) (h .1),
+  )
 
 pub one-order : One-order
 one-order w n before xs ys = same-row (Ahead w (below n)) before (below n) xs ys

@@ -12,7 +12,7 @@ use Rattle.ballots.specs.Sets.{holds, set-of, every}
 use Rattle.pairwise.specs.declared.Pairwise.{Pairwise}
 use Rattle.pairwise.specs.Tables.{win-in}
 use Rattle.paths.specs.Paths.{below}
-use Rattle.best.specs.declared.orders.Order.{Order}
+use Rattle.best.specs.declared.ranking.Order.{Order}
 use Rattle.best.specs.Best.{Ahead, Best}
 use Rattle.best.specs.Orders.{Full-order}
 
@@ -52,8 +52,12 @@ first-below before f (suc n) = cond (f n) (Some (earlier before (first-below bef
 abbrev pub next-by : (ℕ → ℕ → ℕ) → ℕ → (ℕ → ℕ → Bool) → (ℕ → Bool) → Option ℕ
 next-by s n before left = first-below before (λ x. left x && unbeaten-by s n left x) n
 
--- the order is the full order of the candidates of a table, and has nothing behind it
-pub record Order-of (t : Pairwise) (before : ℕ → ℕ → Bool) (o : Order) : Type 0 where
-  pub candidates : o .candidates ≡ t .counts .candidates
-  pub row : Full-order (Ahead (win-in t) (below (o .candidates))) before (below (o .candidates)) (take (o .candidates) (o .places))
-  pub behind : (i : ℕ) → o .candidates ≤ i → getD (o .places) i 0 ≡ 0
+-- the order is the full order of the candidates below n, and has nothing behind it
+pub record Order-by (w : ℕ → ℕ → ℕ) (n : ℕ) (before : ℕ → ℕ → Bool) (o : Order) : Type 0 where
+  pub candidates : o .candidates ≡ n
+  pub row : Full-order (Ahead w (below n)) before (below n) (take n (o .places))
+  pub behind : (i : ℕ) → n ≤ i → getD (o .places) i 0 ≡ 0
+
+-- the order is the full order of the candidates of a table
+abbrev pub Order-of : Pairwise → (ℕ → ℕ → Bool) → Order → Type 0
+Order-of t before o = Order-by (win-in t) (t .counts .candidates) before o

@@ -3,14 +3,15 @@ mod compares;
 mod counts;
 pub mod laws;
 mod orders;
+mod ranking;
 
 pub use compares::ahead;
 pub use compares::best;
 pub use counts::best_of;
 pub use counts::best_of_both;
-pub use orders::Order;
 pub use orders::TieBreak;
 pub use orders::full_order;
+pub use ranking::Order;
 
 // The set of the best of a file, and that of the file with candidates struck, who have other numbers there.
 #[derive(Clone, Copy)]

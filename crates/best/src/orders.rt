@@ -7,6 +7,7 @@ ghost use Rattle.std.specs.Slices.{found};
 ghost use Rattle.ballots.specs.Format.{most-candidates};
 ghost use Rattle.paths.specs.Strengths.{strength-in};
 ghost use Rattle.best.specs.Compared.{before-by, earlier, next-by, Order-of};
+use crate::Order;
 use crate::compares::unbeaten;
 use ballots::MOST_CANDIDATES;
 use paths::Strengths;
@@ -16,13 +17,6 @@ use paths::Strengths;
 #[derive(Clone, Copy)]
 pub struct TieBreak {
     pub keys: [u8; MOST_CANDIDATES],
-}
-
-// The candidates, first to last, and 0 behind them.
-#[derive(Clone, Copy)]
-pub struct Order {
-    pub candidates: usize,
-    pub places: [u8; MOST_CANDIDATES],
 }
 
 impl TieBreak {

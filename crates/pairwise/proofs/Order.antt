@@ -6,7 +6,9 @@ use Prim.Native.Nat.{ℕ, zero, suc, _+_, _≤_, _<_}
 use native.Mathlib.Omega.{arith}
 use Rattle.std.specs.Iters.{counting}
 use Rattle.std.specs.Joined.{joined}
+use Rattle.std.specs.Slices.{Shuffled}
 use Rattle.std.specs.shelf.Lists.{sumBy}
+use Rattle.std.proofs.shelf.Lists.{map-id}
 use Rattle.std.proofs.shelf.Sums.{sumBy-cons}
 use Rattle.std.proofs.shelf.Sorted.{sumBy-shuffled}
 use Rattle.std.proofs.shelf.Tests.{lt-ltb}
@@ -18,15 +20,20 @@ use Rattle.pairwise.specs.Tables.{Pairwise-of}
 use Rattle.pairwise.specs.Laws.{Count-order-free, Table-order-free}
 use Rattle.pairwise.proofs.Rows.{rows-same}
 
-count-is-sum : (last : ℕ) (ps : List (List ℕ)) (x y : ℕ) → count last ps x y ≡ sumBy (λ p. cond (over last p x y) 1 0) ps
+-- a count is a sum over the ballots
+count-is-sum : (last : ℕ) (f : List ℕ → List ℕ) (ps : List (List ℕ)) (x y : ℕ) → count last (map f ps) x y ≡ sumBy (λ p. cond (over last (f p) x y) 1 0) ps
 unfolding count
-count-is-sum last [] x y = refl
-count-is-sum last (p ∷ ps) x y =
-    ap (λ n. cond (over last p x y) 1 0 + n) (count-is-sum last ps x y) ∙ sym (sumBy-cons (λ p. cond (over last p x y) 1 0) p ps)
+count-is-sum last f [] x y = refl
+count-is-sum last f (p ∷ ps) x y =
+    ap (λ n. cond (over last (f p) x y) 1 0 + n) (count-is-sum last f ps x y) ∙ sym (sumBy-cons (λ p. cond (over last (f p) x y) 1 0) p ps)
+
+-- so their order does not matter
+pub count-shuffled : (last : ℕ) (f : List ℕ → List ℕ) (ps qs : List (List ℕ)) (x y : ℕ) → Shuffled ps qs → count last (map f qs) x y ≡ count last (map f ps) x y
+count-shuffled last f ps qs x y h =
+    count-is-sum last f qs x y ∙ (sumBy-shuffled (λ p. cond (over last (f p) x y) 1 0) ps qs h ∙ sym (count-is-sum last f ps x y))
 
 pub count-order-free : Count-order-free
-count-order-free last ps qs x y h =
-    count-is-sum last qs x y ∙ (sumBy-shuffled (λ p. cond (over last p x y) 1 0) ps qs h ∙ sym (count-is-sum last ps x y))
+count-order-free last ps qs x y h = rw (map-id ps, map-id qs) at (count-shuffled last (λ p. p) ps qs x y h)
 
 -- the table of a file's counts, by its definition
 table-is : (bs : List ℕ) (t : Pairwise) → Pairwise-of bs t → t .counts .candidates ≤ most-candidates →

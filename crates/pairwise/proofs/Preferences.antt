@@ -68,15 +68,21 @@ counted-le v i bs cs h x y hx hy =
     elim (ltb x v && ltb y v) as (λ t. cond t (count unranked (first-ballots v bs i) x y) 0 ≤ length (first-ballots v bs i)) [ true ↦ count-le (first-ballots v bs i) x y | false ↦ omega arith ] in
     omega (arith, h x y hx hy, length-map-counting (λ j. ranks-of (ballot-bytes v bs j)) 0 i)
 
--- cells to which the preferences of ballot i were added count one ballot more
+-- cells to which the preferences of a ballot were added count one ballot more
+pub counted-push : (v : ℕ) (ps : List (List ℕ)) (p cs ds : List ℕ) → length p ≡ v → Counted v ps cs
+    → ((x y : ℕ) → x < most-candidates → y < most-candidates → cell ds x y ≡ cell cs x y + preference p x y)
+    → Counted v (ps ++ ranks-of p ∷ []) ds
+counted-push v ps p cs ds long h step x y hx hy =
+    let push : within v (count unranked (ps ++ ranks-of p ∷ [])) x y ≡ within v (count unranked ps) x y + preference p x y =
+    rw long (elim (ltb x v && ltb y v) as (λ t. cond t (count unranked (ps ++ ranks-of p ∷ []) x y) 0 ≡ cond t (count unranked ps x y) 0 + cond t (cond (over unranked (ranks-of p) x y) 1 0) 0)
+    [ true ↦ count-push ps (ranks-of p) x y | false ↦ omega arith ]) in
+    omega (arith, step x y hx hy, h x y hx hy, push)
+
 pub counted-more : (v i : ℕ) (bs cs ds p : List ℕ) → p ≡ ballot-bytes v bs i → length p ≡ v → Counted v (first-ballots v bs i) cs
     → ((x y : ℕ) → x < most-candidates → y < most-candidates → cell ds x y ≡ cell cs x y + preference p x y)
     → Counted v (first-ballots v bs (i + 1)) ds
-counted-more v i bs cs ds p e long h step x y hx hy =
-    let push : within v (count unranked (first-ballots v bs i ++ ranks-of p ∷ [])) x y ≡ within v (count unranked (first-ballots v bs i)) x y + preference p x y =
-    rw long (elim (ltb x v && ltb y v) as (λ t. cond t (count unranked (first-ballots v bs i ++ ranks-of p ∷ []) x y) 0 ≡ cond t (count unranked (first-ballots v bs i) x y) 0 + cond t (cond (over unranked (ranks-of p) x y) 1 0) 0)
-    [ true ↦ count-push (first-ballots v bs i) (ranks-of p) x y | false ↦ omega arith ]) in
-    rw (map-counting-more (λ j. ranks-of (ballot-bytes v bs j)) 0 i i (omega arith), sym e) (omega (arith, step x y hx hy, h x y hx hy, push))
+counted-more v i bs cs ds p e long h step =
+    rw (map-counting-more (λ j. ranks-of (ballot-bytes v bs j)) 0 i i (omega arith), sym e) (counted-push v (first-ballots v bs i) p cs ds long h step)
 
 -- as many ballots, each putting u over v exactly if the other puts x over y, give the same count
 pub count-same :

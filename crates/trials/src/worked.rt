@@ -18,7 +18,7 @@ fn print_set(rt: &LibcRuntime, set: u32) -> Result<(), AnyError> {
 }
 
 fn print_order(rt: &LibcRuntime, order: &Order) -> Result<(), AnyError> {
-    for place in 0..order.candidates.min(MOST_CANDIDATES) {
+    for place in 0..order.candidates {
         let x = order.places[place];
         print!(rt, " {x}")?;
     }

@@ -39,7 +39,7 @@ returns c =
       answer = (
         f .not-refused,
         counts-agree bs (holds (c .args .keep)) (c .in-Continue-all .all) (c .in-Continue-kept .kept) (c .in-Continue-all .ensures tt .counts)
-        (subst (λ (l : List ℕ). Best-of l (c .in-Continue-kept .kept)) same (c .in-Continue-kept .ensures tt .counts)),
+            (subst (λ (l : List ℕ). Best-of l (c .in-Continue-kept .kept)) same (c .in-Continue-kept .ensures tt .counts)),
       );
       after = c .strike .ensures .after;
     }
