@@ -1,55 +1,62 @@
-// Counts the ballots of a file, and prints the outcome or why the file is refused.
-use ballots::MOST_CANDIDATES;
+// Counts the ballots of a file, and prints the outcome or why the count is refused.
 use ballots::Refusal;
 use ballots::RefusalDisplay;
-use best::Order;
-use best::TieBreak;
-use paths::Strengths;
+use certificate::LONGEST;
+use pairwise::CELLS;
+use std::alloc::Global;
 use std::env;
 use std::error::AnyError;
 use std::fs;
+use std::rt::Files;
+use tiebreak::count;
+use tiebreak::report;
 
-fn print_best(rt: &impl Print, strengths: &Strengths) -> Result<(), AnyError> {
-    let ballots = strengths.pairwise.ballots;
-    print!(rt, "papers {ballots} best")?;
-    let best = best::best(strengths);
-    for x in 0..MOST_CANDIDATES {
-        if ballots::holds(best, x) {
-            print!(rt, " {x}")?;
+// What is asked for: the files of the ballots and the draw, and where the certificate goes.
+#[derive(Drop)]
+struct Request {
+    ballots: Option<String>,
+    draw: Option<String>,
+    sheet: Option<String>,
+    // The word behind `--sheet` comes next.
+    sheet_next: bool,
+    too_many: bool,
+}
+
+impl Request {
+    fn take(&mut self, word: String) {
+        if self.sheet_next {
+            self.sheet = Some(word);
+            self.sheet_next = false;
+        } else if word.as_str() == "--sheet" {
+            self.sheet_next = true;
+        } else if self.ballots.is_none() {
+            self.ballots = Some(word);
+        } else if self.draw.is_none() {
+            self.draw = Some(word);
+        } else {
+            self.too_many = true;
         }
     }
-    println!(rt, "")?;
-    Ok(())
 }
 
-fn print_ahead(rt: &impl Print, strengths: &Strengths) -> Result<(), AnyError> {
-    let candidates = strengths.pairwise.counts.candidates;
-    for x in 0..candidates {
-        for y in 0..candidates {
-            if best::ahead(strengths, x, y) {
-                let there = strengths.at(x, y);
-                let back = strengths.at(y, x);
-                println!(rt, "ahead {x} {y} {there} {back}")?;
-            }
+fn read(rt: &(impl Files + Eprint + Alloc<A = Global>), path: &str) -> Result<Vec<u8>, AnyError> {
+    match fs::read(rt, path) {
+        Ok(bytes) => Ok(bytes),
+        Err(_) => {
+            eprintln!(rt, "count: cannot read {path}")?;
+            Err("a file cannot be read".into())
         }
     }
-    Ok(())
 }
 
-fn print_order(rt: &impl Print, order: &Order) -> Result<(), AnyError> {
-    print!(rt, "order")?;
-    for place in 0..order.candidates.min(MOST_CANDIDATES) {
-        let x = order.places[place];
-        print!(rt, " {x}")?;
+fn write(rt: &(impl Files + Eprint), path: &str, sheet: &[u8]) -> Result<(), AnyError> {
+    match fs::write(rt, path, sheet) {
+        Ok(()) => Ok(()),
+        Err(_) => {
+            eprintln!(rt, "count: cannot write {path}")?;
+            Err("the sheet cannot be written".into())
+        }
     }
-    println!(rt, "")?;
-    Ok(())
-}
-
-fn print_outcome(rt: &impl Print, strengths: &Strengths) -> Result<(), AnyError> {
-    print_best(rt, strengths)?;
-    print_ahead(rt, strengths)?;
-    print_order(rt, &best::full_order(strengths, &TieBreak::by_number()))
 }
 
 fn print_refusal(rt: &impl Print, refusal: Refusal) -> Result<(), AnyError> {
@@ -57,19 +64,62 @@ fn print_refusal(rt: &impl Print, refusal: Refusal) -> Result<(), AnyError> {
     Err("refused".into())
 }
 
+fn run(
+    rt: &LibcRuntime,
+    bytes: &[u8],
+    draw: &[u8],
+    sheet_path: Option<String>,
+) -> Result<(), AnyError> {
+    let mut table = [0u16; CELLS];
+    let mut strengths = [0u16; CELLS];
+    let mut sheet = vec![in rt.alloc(); 0u8; LONGEST]?;
+    match count(bytes, draw, &mut table, &mut strengths, &mut sheet) {
+        Err(refusal) => print_refusal(rt, refusal),
+        Ok(outcome) => {
+            rt.print(report(rt.alloc(), &outcome, &strengths)?)?;
+            match sheet_path {
+                None => Ok(()),
+                Some(path) => write(rt, path.as_str(), &sheet[0..outcome.length]),
+            }
+        }
+    }
+}
+
+fn usage(rt: &impl Eprint) -> Result<(), AnyError> {
+    eprintln!(rt, "usage: count BALLOTS [DRAW] [--sheet FILE]")?;
+    Err("usage".into())
+}
+
 fn main(rt: LibcRuntime) -> Result<(), AnyError> {
+    let mut request = Request {
+        ballots: None,
+        draw: None,
+        sheet: None,
+        sheet_next: false,
+        too_many: false,
+    };
     let mut args = env::args(&rt)?;
     let _ = args.next();
-    let Some(path) = args.next() else {
-        eprintln!(rt, "usage: count BALLOTS")?;
-        return Err("no ballots are named".into());
-    };
-    let Ok(bytes) = fs::read(&rt, path.as_str()) else {
-        eprintln!(rt, "count: cannot read {path}")?;
-        return Err("the ballots cannot be read".into());
-    };
-    match pairwise::tally(&bytes) {
-        Ok(pairwise) => print_outcome(&rt, &Strengths::of(&pairwise)),
-        Err(refusal) => print_refusal(&rt, refusal),
+    for word in args {
+        request.take(word);
     }
+    let Request {
+        ballots,
+        draw,
+        sheet,
+        sheet_next,
+        too_many,
+    } = request;
+    let Some(ballots) = ballots else {
+        return usage(&rt);
+    };
+    if sheet_next || too_many {
+        return usage(&rt);
+    }
+    let bytes = read(&rt, ballots.as_str())?;
+    let drawn = match draw {
+        None => Vec::new(rt.alloc()),
+        Some(path) => read(&rt, path.as_str())?,
+    };
+    run(&rt, &bytes, &drawn, sheet)
 }
