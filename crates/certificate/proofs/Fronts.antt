@@ -1,10 +1,10 @@
 -- The table at the front of a certificate.
 use mathlib.Core.Path.{_≡_, refl, sym, _∙_, ap}
 use mathlib.Core.List.{List, [], _∷_}
-use Prim.Native.Nat.{ℕ, zero, suc, _+_, _*_, _≤_}
-use native.Mathlib.Nat.{add-mul, mul-assoc}
+use Prim.Native.Nat.{ℕ, _+_, _*_, _≤_}
+use native.Mathlib.Nat.{mul-assoc}
 use native.Mathlib.Omega.{arith}
-use lib.ListN.{length, length-append}
+use lib.ListN.{length}
 use Rattle.std.specs.Iters.{counting}
 use Rattle.std.specs.Joined.{joined}
 use Rattle.std.specs.declared.result.Result.{Result}
@@ -12,6 +12,7 @@ use Rattle.std.specs.declared.result.Result.the-variants.{Ok, Err}
 use Rattle.std.proofs.shelf.Ways.{tells}
 use Rattle.ballots.specs.declared.refusal.Refusal.{Refusal}
 use Rattle.ballots.specs.Lending.{answered}
+use Rattle.ballots.proofs.Products.{length-joined}
 use Rattle.pairwise.specs.declared.Pairwise.{Pairwise}
 use Rattle.pairwise.specs.Grids.{entry}
 use Rattle.pairwise.specs.Tables.{win-in}
@@ -22,17 +23,11 @@ use Rattle.certificate.specs.Progress.{past, At, behind-all}
 use Rattle.certificate.proofs.Arrivals.{answered-ok, answered-err, unmet-on, unmet-stop, past-on}
 use Rattle.certificate.proofs.Places.{place-first}
 
--- n parts of one length
-length-parts : {A : Type 0} (f : ℕ → List A) (k a n : ℕ) → ((i : ℕ) → length (f i) ≡ k) → length (joined f (counting a n)) ≡ n * k
-length-parts f k a zero h = omega arith
-length-parts f k a (suc n) h =
-    length-append (f a) (joined f (counting (a + 1) n)) ∙ omega (arith, h a, length-parts f k (a + 1) n h, add-mul n 1 k)
-
 pub table-length : (v : ℕ) (n : ℕ → ℕ → ℕ) → length (table-bytes v n) ≡ table-end v
 table-length v n =
     let row : (x : ℕ) → length (joined (λ y. two-bytes (n x y)) (counting 0 v)) ≡ v * 2 =
-    λ x. length-parts (λ y. two-bytes (n x y)) 2 0 v (λ y. refl) in
-    omega (arith, length-parts (λ x. joined (λ y. two-bytes (n x y)) (counting 0 v)) (v * 2) 0 v row, mul-assoc v v 2)
+    λ x. length-joined (λ y. two-bytes (n x y)) 2 (λ y. refl) 0 v in
+    omega (arith, length-joined (λ x. joined (λ y. two-bytes (n x y)) (counting 0 v)) (v * 2) row 0 v, mul-assoc v v 2)
 
 -- bytes that stand in a certificate end in it
 past-within : (sheet : List ℕ) (p q : ℕ) (bs : List ℕ) → p ≤ length sheet → past sheet p bs ≡ Ok q → q ≤ length sheet

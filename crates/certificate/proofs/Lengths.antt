@@ -19,8 +19,10 @@ use Rattle.paths.proofs.Walks.{in-below, below-in}
 use Rattle.paths.proofs.Pairs.{pair-two, strength-is, strength-pair}
 use Rattle.paths.proofs.Rows.{path-shown}
 use Rattle.paths.proofs.Written.{wrote-both}
-use Rattle.certificate.specs.Layout.{four-bytes, claim-bytes, all-pairs, table-bytes, certificate-of}
+use Rattle.certificate.specs.Layout.{four-bytes, claim-bytes, all-pairs, certificate-of}
+use Rattle.certificate.specs.Reading.{table-end}
 use Rattle.certificate.specs.Certified.{found, longest}
+use Rattle.certificate.specs.Parts.{front-bytes, entries-bytes, certificate-in}
 use Rattle.certificate.proofs.Fronts.{table-length}
 use Rattle.certificate.proofs.Writing.{claim-none, claim-length}
 
@@ -68,23 +70,27 @@ module _ (w : ℕ → ℕ → ℕ) (v : ℕ) where
       parts-but-one (claim-bytes (found w v) x) (7 + v) v (λ y _. claim-most x y) x 0 v (omega arith) (omega arith) (omega arith)
       (ap length (claim-none (found w v) x x refl))
 
-  pub entries-most : length (all-pairs v (claim-bytes (found w v))) ≤ v * (v - 1) * (7 + v)
+  entries-most : length (all-pairs v (claim-bytes (found w v))) ≤ v * (v - 1) * (7 + v)
   entries-most =
       omega (arith, parts-most (λ x. joined (claim-bytes (found w v) x) (counting 0 v)) ((v - 1) * (7 + v)) v row-most 0 v (omega arith), mul-assoc v (v - 1) (7 + v))
+
+-- the parts of the certificate of a table
+pub front-length : (t : Pairwise) → length (front-bytes t) ≡ table-end (t .counts .candidates)
+front-length t = table-length (t .counts .candidates) (entry (t .counts))
+
+pub entries-fit : (t : Pairwise) → table-end (t .counts .candidates) + length (entries-bytes t) + 4 ≤ longest (t .counts .candidates)
+entries-fit t = omega (arith, entries-most (win-in t) (t .counts .candidates))
 
 -- the certificate in three parts
 pub wrote-certificate :
     (t : Pairwise) (best : ℕ) {p q r : ℕ} {S₀ S₁ S₂ S₃ : List ℕ} → longest (t .counts .candidates) ≤ length S₀ →
-    Wrote (table-bytes (t .counts .candidates) (entry (t .counts))) 0 S₀ S₁ p →
-    Wrote (all-pairs (t .counts .candidates) (claim-bytes (found (win-in t) (t .counts .candidates)))) p S₁ S₂ q → Wrote (four-bytes best) q S₂ S₃ r →
-    Wrote (certificate-of (t .counts .candidates) (entry (t .counts)) (found (win-in t) (t .counts .candidates)) best) 0 S₀ S₃ r
+    Wrote (front-bytes t) 0 S₀ S₁ p → Wrote (entries-bytes t) p S₁ S₂ q → Wrote (four-bytes best) q S₂ S₃ r → Wrote (certificate-in t best) 0 S₀ S₃ r
 unfolding certificate-of
 wrote-certificate t best room a b c =
-    let v : ℕ = t .counts .candidates in
-    let front : List ℕ = table-bytes v (entry (t .counts)) in
-    let entries : List ℕ = all-pairs v (claim-bytes (found (win-in t) v)) in
-    let n = table-length v (entry (t .counts)) in
-    let m = entries-most (win-in t) v in
+    let front : List ℕ = front-bytes t in
+    let entries : List ℕ = entries-bytes t in
+    let n = front-length t in
+    let m = entries-fit t in
     let e : front ++ (entries ++ four-bytes best) ≡ front ++ entries ++ four-bytes best = sym (append-assoc front entries (four-bytes best)) in
     let k = length-append front entries in
     let l = length-append (front ++ entries) (four-bytes best) in

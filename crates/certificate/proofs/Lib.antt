@@ -17,4 +17,5 @@ pub mod Exact
 pub mod Writing
 pub mod Lengths
 pub mod Agreed
+pub mod Certificates
 pub mod Certifying

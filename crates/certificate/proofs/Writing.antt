@@ -72,12 +72,6 @@ module _ (t : Pairwise) (x y : ℕ) (old new : List ℕ) (r : ℕ) (w : Path-wri
   unfolding put
   path-front = rw (w .after, path-count, path-bytes-is) (take-at (row (win-in t) (t .counts .candidates) x y) _ _ refl)
 
-  pub path-few : r ≤ most-candidates
-  path-few = elim (cases-eq r 0) [
-    | inl e ↦ omega arith
-    | inr e ↦ omega (arith, w .shown (omega arith) .short, w .count, t .counts .few)
-  ]
-
 -- an entry in four parts
 pub wrote-entry :
     (s k c : ℕ) (path : List ℕ) {at p q r end : ℕ} {S₀ S₁ S₂ S₃ S₄ : List ℕ} → k ≡ length path → at + (7 + length path) ≤ length S₀ →

@@ -55,19 +55,21 @@ room-refusal v table strengths sheet =
 abbrev pub certify-refusal : List ℕ → ℕ → ℕ → ℕ → Option Refusal
 certify-refusal bytes table strengths sheet = or-else (refusal bytes) (room-refusal (candidates-in bytes) table strengths sheet)
 
--- what is told of the ballots in the bytes: their number, the set of the best, and the length of the certificate
-abbrev pub told : List ℕ → Certified
-told bytes =
+-- what is answered of the ballots in the bytes: their number, the set of the best, and the length of the certificate
+abbrev pub certified : List ℕ → Certified
+certified bytes =
     let v : ℕ = candidates-in bytes in
     let n : ℕ → ℕ → ℕ = count unranked (ballots-of bytes) in
     record { ballots = ballots-in bytes; best = best-by (strength (win-by n) v) v; length = length (certificate-by v n) }
 
--- counts, strengths and certificate stand in front of what was lent, and r tells of them; or the call is refused, and nothing is changed
-pub record Certifies (bytes table table′ strengths strengths′ sheet sheet′ : List ℕ) (r : Result Certified Refusal) : Type 0 where
-  pub answer : r ≡ answered (certify-refusal bytes (length table) (length strengths) (length sheet)) (told bytes)
-  pub counts : table′ ≡ written (certify-refusal bytes (length table) (length strengths) (length sheet)) table
-      (rows (candidates-in bytes) (count unranked (ballots-of bytes)))
-  pub strong : strengths′ ≡ written (certify-refusal bytes (length table) (length strengths) (length sheet)) strengths
-      (strengths-by (candidates-in bytes) (count unranked (ballots-of bytes)))
-  pub certificate : sheet′ ≡ written (certify-refusal bytes (length table) (length strengths) (length sheet)) sheet
-      (certificate-by (candidates-in bytes) (count unranked (ballots-of bytes)))
+-- counts, strengths and certificate stand in front of what was lent, and r says what they are; or the call is refused, and nothing is changed
+pub record Certifies-unless (refused : Option Refusal) (bytes table table′ strengths strengths′ sheet sheet′ : List ℕ) (r : Result Certified Refusal) : Type 0 where
+  pub answer : r ≡ answered refused (certified bytes)
+  pub table-after : table′ ≡ written refused table (rows (candidates-in bytes) (count unranked (ballots-of bytes)))
+  pub strengths-after : strengths′ ≡ written refused strengths (strengths-by (candidates-in bytes) (count unranked (ballots-of bytes)))
+  pub sheet-after : sheet′ ≡ written refused sheet (certificate-by (candidates-in bytes) (count unranked (ballots-of bytes)))
+
+-- the same, refused only where the ballots are, or where a slice is too short
+abbrev pub Certifies : List ℕ → List ℕ → List ℕ → List ℕ → List ℕ → List ℕ → List ℕ → Result Certified Refusal → Type 0
+Certifies bytes table table′ strengths strengths′ sheet sheet′ r =
+    Certifies-unless (certify-refusal bytes (length table) (length strengths) (length sheet)) bytes table table′ strengths strengths′ sheet sheet′ r

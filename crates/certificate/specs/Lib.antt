@@ -1,6 +1,7 @@
 pub mod Layout
 pub mod Reading
 pub mod Judge
-pub mod Progress
 pub mod Truth
 pub mod Certified
+pub mod Parts
+pub mod Progress

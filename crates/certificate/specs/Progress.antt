@@ -6,16 +6,16 @@ use Prim.Native.Nat.{ℕ, _+_, _≤_, _<_}
 use lib.ListN.{length}
 use Rattle.std.specs.Iters.{counting}
 use Rattle.std.specs.Joined.{joined}
+use Rattle.std.specs.Vec.{made}
 use Rattle.std.specs.declared.result.Result.{Result}
 use Rattle.ballots.specs.declared.refusal.Refusal.{Refusal}
 use Rattle.ballots.specs.Lending.{answered}
 use Rattle.pairwise.specs.declared.Pairwise.{Pairwise}
 use Rattle.pairwise.specs.Grids.{cell, entry}
 use Rattle.pairwise.specs.Tables.{win-in}
-use Rattle.certificate.specs.Layout.{all-pairs, two-bytes, claim-bytes}
+use Rattle.certificate.specs.Layout.{all-pairs}
 use Rattle.certificate.specs.Reading.{place, best-place, claims-in}
-use Rattle.certificate.specs.Certified.{found}
-use Rattle.certificate.specs.Judge.{Demand, unmet, stands, entry-demands, claim-demands}
+use Rattle.certificate.specs.Judge.{Demand, unmet, stands, entry-demands, claim-demands, demands}
 
 -- the place p where all demands are met, and else the refusal of the first that is not
 abbrev pub arrival : List Demand → ℕ → Result ℕ Refusal
@@ -25,13 +25,9 @@ arrival ds p = answered (unmet ds) p
 abbrev pub past : List ℕ → ℕ → List ℕ → Result ℕ Refusal
 past sheet p bs = arrival (stands sheet p bs) (p + length bs)
 
--- the bytes of row x of a table
-abbrev pub row-bytes : Pairwise → ℕ → List ℕ
-row-bytes t x = joined (λ y. two-bytes (entry (t .counts) x y)) (counting 0 (t .counts .candidates))
-
--- the bytes of the entries of x that are written of a table
-abbrev pub claims-bytes : Pairwise → ℕ → List ℕ
-claims-bytes t x = joined (claim-bytes (found (win-in t) (t .counts .candidates)) x) (counting 0 (t .counts .candidates))
+-- all that is demanded of a certificate of a table
+abbrev pub demands-in : Pairwise → List ℕ → List Demand
+demands-in t sheet = demands (t .counts .candidates) (entry (t .counts)) sheet
 
 -- at is where the entry of the pair x, y starts, or ends the certificate
 pub record At (t : Pairwise) (sheet : List ℕ) (x y at : ℕ) : Type 0 where
@@ -64,3 +60,7 @@ behind-all t sheet =
 abbrev pub Kept : ℕ → List ℕ → ℕ → ℕ → List ℕ → Type 0
 Kept v sheet x y cs =
     (a b : ℕ) → (a < x) ⊎ ((a ≡ x) × (b < y)) → b < v → a ≢ b → cell cs a b ≡ claims-in v sheet .strength a b
+
+-- where nothing is refused from the pair x, y to the pair a, b, their strengths are kept beside those from before
+abbrev pub Keeps : Pairwise → List ℕ → ℕ → ℕ → ℕ → ℕ → List ℕ → List ℕ → Result ℕ Refusal → Type 0
+Keeps t sheet x y a b old new r = made r (λ _. Kept (t .counts .candidates) sheet x y old → Kept (t .counts .candidates) sheet a b new)

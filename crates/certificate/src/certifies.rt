@@ -4,8 +4,10 @@ ghost use Prim.Native.Nat.{_≤_};
 ghost use Rattle.std.specs.Vec.{made};
 ghost use Rattle.std.specs.declared.option.Option.the-variants.{None};
 ghost use lib.ListN.{take};
-ghost use Rattle.ballots.specs.Format.{most-candidates};
+ghost use Rattle.ballots.specs.Format.{most-candidates, unranked, candidates-in, ballots-of};
 ghost use Rattle.ballots.specs.Lending.{answered};
+ghost use Rattle.pairwise.specs.Counts.{win};
+ghost use Rattle.best.specs.Compared.{Best-set};
 ghost use Rattle.certificate.specs.Judge.{judge};
 ghost use Rattle.certificate.specs.Certified.{longest, room-refusal, Certifies};
 use crate::Certified;
@@ -56,7 +58,8 @@ pub fn certify(
     sheet: &mut [u8],
 ) -> Result<Certified, Refusal>
     ensures written { λ r. ⌜ Certifies (now (bytes .entry)) (now (table .entry)) (now (table .exit)) (now (strengths .entry)) (now (strengths .exit)) (now (sheet .entry)) (now (sheet .exit)) r ⌝ }
-    ensures accepted { λ r. ⌜ made r (λ told. judge (now (bytes .entry)) (take (told .length) (now (sheet .exit))) ≡ None) ⌝ }
+    ensures best { λ r. ⌜ made r (λ c. Best-set (win unranked (ballots-of (now (bytes .entry)))) (candidates-in (now (bytes .entry))) (c .best)) ⌝ }
+    ensures accepted { λ r. ⌜ made r (λ c. judge (now (bytes .entry)) (take (c .length) (now (sheet .exit))) ≡ None) ⌝ }
 {
     let pairwise = tally(bytes)?;
     check_room(

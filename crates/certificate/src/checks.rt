@@ -3,8 +3,8 @@ ghost use mathlib.Core.Path.{_≡_};
 ghost use mathlib.Core.Logic.{_↔_};
 ghost use Rattle.std.specs.declared.result.Result.the-variants.{Ok};
 ghost use Rattle.ballots.specs.Lending.{answered};
-ghost use Rattle.pairwise.specs.Grids.{entry};
-ghost use Rattle.certificate.specs.Judge.{unmet, demands, judge};
+ghost use Rattle.certificate.specs.Judge.{unmet, judge};
+ghost use Rattle.certificate.specs.Progress.{demands-in};
 ghost use Rattle.certificate.specs.Truth.{True-to, As-said};
 use crate::bests::check_best;
 use crate::entries::check_entries;
@@ -16,7 +16,7 @@ use pairwise::tally;
 
 // Whether a certificate is right for a table, or the first refusal in it, front to back.
 fn check_against(table: &Pairwise, sheet: &[u8]) -> Result<(), Refusal>
-    ensures { λ r. ⌜ r ≡ answered (unmet (demands (now (table .entry) .counts .candidates) (entry (now (table .entry) .counts)) (now (sheet .entry)))) tt ⌝ }
+    ensures { λ r. ⌜ r ≡ answered (unmet (demands-in (now (table .entry)) (now (sheet .entry)))) tt ⌝ }
 {
     let mut strengths = [0u16; CELLS];
     let entries_at = check_table(table, sheet)?;

@@ -1,4 +1,4 @@
-// What a certificate claims of a pair of candidates, tested: a path and a cut.
+// Whether what a certificate claims of a pair of candidates is as said: its path and its cut.
 ghost use mathlib.Core.Path.{_≡_};
 ghost use Prim.Native.Nat.{_<_};
 ghost use mathlib.Core.Logic.{_≢_};
@@ -22,6 +22,7 @@ pub(crate) fn is_path(table: &Pairwise, row: &[u8], x: usize, y: usize, strength
         return false;
     }
     let mut last = x;
+    // The first win, which the loop meets again.
     let mut weakest = table.win(x, row[1] as usize);
     for i in 1..row.len() {
         let next = row[i] as usize;

@@ -5,7 +5,7 @@ ghost use Prim.Native.Nat.{_+_, _<_};
 ghost use lib.ListN.{length};
 ghost use Rattle.std.specs.Vec.{made};
 ghost use Rattle.pairwise.specs.Grids.{cells};
-ghost use Rattle.certificate.specs.Progress.{At, behind-entry, behind-claim, behind-row, behind-all, Kept};
+ghost use Rattle.certificate.specs.Progress.{At, behind-entry, behind-claim, behind-row, behind-all, Kept, Keeps};
 use crate::claims::is_cut;
 use crate::claims::is_path;
 use crate::reads::four_at;
@@ -69,7 +69,7 @@ fn check_claim(
     requires room { ⌜ length (now strengths) ≡ cells ⌝ }
     ensures answer { λ r. ⌜ r ≡ behind-claim (now (table .entry)) (now (sheet .entry)) x y ⌝ }
     ensures next { λ r. ⌜ made r (At (now (table .entry)) (now (sheet .entry)) x (y + 1)) ⌝ }
-    ensures kept { λ r. ⌜ made r (λ _. Kept (now (table .entry) .counts .candidates) (now (sheet .entry)) x y (now (strengths .entry)) → Kept (now (table .entry) .counts .candidates) (now (sheet .entry)) x (y + 1) (now (strengths .exit))) ⌝ }
+    ensures kept { λ r. ⌜ Keeps (now (table .entry)) (now (sheet .entry)) x y x (y + 1) (now (strengths .entry)) (now (strengths .exit)) r ⌝ }
 {
     if x == y {
         return Ok(at);
@@ -92,7 +92,7 @@ fn check_row(
     requires room { ⌜ length (now strengths) ≡ cells ⌝ }
     ensures answer { λ r. ⌜ r ≡ behind-row (now (table .entry)) (now (sheet .entry)) x ⌝ }
     ensures next { λ r. ⌜ made r (At (now (table .entry)) (now (sheet .entry)) (x + 1) 0) ⌝ }
-    ensures kept { λ r. ⌜ made r (λ _. Kept (now (table .entry) .counts .candidates) (now (sheet .entry)) x 0 (now (strengths .entry)) → Kept (now (table .entry) .counts .candidates) (now (sheet .entry)) (x + 1) 0 (now (strengths .exit))) ⌝ }
+    ensures kept { λ r. ⌜ Keeps (now (table .entry)) (now (sheet .entry)) x 0 (x + 1) 0 (now (strengths .entry)) (now (strengths .exit)) r ⌝ }
 {
     let mut at = at;
     for y in 0..table.counts.candidates {

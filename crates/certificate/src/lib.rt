@@ -1,4 +1,4 @@
-// The certificate of a count: it lets anybody see that the strengths and the best are right without searching paths.
+// The certificate of a count: it lets anybody see that the strengths and the best are right, by one path and one cut for each pair.
 use ballots::MOST_CANDIDATES;
 use pairwise::CELLS;
 
@@ -20,7 +20,7 @@ pub const LONGEST: usize = 1
     + MOST_CANDIDATES * (MOST_CANDIDATES - 1) * (7 + MOST_CANDIDATES)
     + 4;
 
-// What is told of ballots that were certified: their number, the set of the best, and the length of the certificate.
+// What is answered of ballots that were certified: their number, the set of the best, and the length of the certificate.
 #[derive(Clone, Copy)]
 pub struct Certified {
     pub ballots: u16,

@@ -2,8 +2,9 @@
 ghost use mathlib.Core.Path.{_≡_};
 ghost use mathlib.Core.List.{_∷_, []};
 ghost use Rattle.pairwise.specs.Grids.{entry};
-ghost use Rattle.certificate.specs.Layout.{two-bytes, table-bytes};
-ghost use Rattle.certificate.specs.Progress.{past, row-bytes};
+ghost use Rattle.certificate.specs.Layout.{two-bytes};
+ghost use Rattle.certificate.specs.Parts.{row-bytes, front-bytes};
+ghost use Rattle.certificate.specs.Progress.{past};
 use ballots::Refusal;
 use pairwise::Pairwise;
 
@@ -48,7 +49,7 @@ fn check_row(table: &Pairwise, sheet: &[u8], at: usize, x: usize) -> Result<usiz
 
 // The place behind the table.
 pub(crate) fn check_table(table: &Pairwise, sheet: &[u8]) -> Result<usize, Refusal>
-    ensures { λ r. ⌜ r ≡ past (now (sheet .entry)) 0 (table-bytes (now (table .entry) .counts .candidates) (entry (now (table .entry) .counts))) ⌝ }
+    ensures { λ r. ⌜ r ≡ past (now (sheet .entry)) 0 (front-bytes (now (table .entry))) ⌝ }
 {
     let mut at = check_byte(sheet, 0, table.counts.candidates as u8)?;
     for x in 0..table.counts.candidates {

@@ -1,14 +1,10 @@
 // Writing a certificate, part by part.
 ghost use Prim.Native.Nat.{_+_, _≤_};
 ghost use lib.ListN.{length};
-ghost use Rattle.std.specs.Iters.{counting};
-ghost use Rattle.std.specs.Joined.{joined};
-ghost use Rattle.pairwise.specs.Grids.{entry};
-ghost use Rattle.pairwise.specs.Tables.{win-in};
 ghost use Rattle.paths.specs.Found.{Wrote};
-ghost use Rattle.certificate.specs.Layout.{two-bytes, four-bytes, claim-bytes, table-bytes, certificate-of};
-ghost use Rattle.certificate.specs.Progress.{row-bytes, claims-bytes};
-ghost use Rattle.certificate.specs.Certified.{found, longest};
+ghost use Rattle.certificate.specs.Layout.{two-bytes, four-bytes, claim-bytes};
+ghost use Rattle.certificate.specs.Certified.{longest};
+ghost use Rattle.certificate.specs.Parts.{row-bytes, front-bytes, found-in, claims-bytes, entries-bytes, certificate-in};
 use ballots::MOST_CANDIDATES;
 use pairwise::Pairwise;
 use paths::Strengths;
@@ -24,15 +20,15 @@ fn write_at(sheet: &mut [u8], at: usize, bytes: &[u8]) -> usize
 }
 
 // Writes a number in two bytes, low byte first.
-fn write_two(sheet: &mut [u8], at: usize, number: u16) -> usize
+fn write_number(sheet: &mut [u8], at: usize, number: u16) -> usize
     requires { ⌜ at + 2 ≤ length (now sheet) ⌝ }
     ensures { λ r. ⌜ Wrote (two-bytes number) at (now (sheet .entry)) (now (sheet .exit)) r ⌝ }
 {
     write_at(sheet, at, &number.to_le_bytes())
 }
 
-// Writes a set of candidates in four bytes, low byte first.
-fn write_four(sheet: &mut [u8], at: usize, set: u32) -> usize
+// Writes a set in four bytes, low byte first.
+fn write_set(sheet: &mut [u8], at: usize, set: u32) -> usize
     requires { ⌜ at + 4 ≤ length (now sheet) ⌝ }
     ensures { λ r. ⌜ Wrote (four-bytes set) at (now (sheet .entry)) (now (sheet .exit)) r ⌝ }
 {
@@ -46,15 +42,15 @@ fn write_counts(table: &Pairwise, sheet: &mut [u8], at: usize, x: usize) -> usiz
 {
     let mut at = at;
     for y in 0..table.counts.candidates {
-        at = write_two(sheet, at, table.preferring(x, y));
+        at = write_number(sheet, at, table.preferring(x, y));
     }
     at
 }
 
 // Writes the number of candidates and the table.
 fn write_table(table: &Pairwise, sheet: &mut [u8]) -> usize
-    requires { ⌜ length (table-bytes (now table .counts .candidates) (entry (now table .counts))) ≤ length (now sheet) ⌝ }
-    ensures { λ r. ⌜ Wrote (table-bytes (now (table .entry) .counts .candidates) (entry (now (table .entry) .counts))) 0 (now (sheet .entry)) (now (sheet .exit)) r ⌝ }
+    requires { ⌜ length (front-bytes (now table)) ≤ length (now sheet) ⌝ }
+    ensures { λ r. ⌜ Wrote (front-bytes (now (table .entry))) 0 (now (sheet .entry)) (now (sheet .exit)) r ⌝ }
 {
     let mut at = write_at(sheet, 0, &[table.counts.candidates as u8]);
     for x in 0..table.counts.candidates {
@@ -65,18 +61,18 @@ fn write_table(table: &Pairwise, sheet: &mut [u8]) -> usize
 
 // Writes the entry of the pair x, y; a candidate has none with itself.
 fn write_claim(strengths: &Strengths, sheet: &mut [u8], at: usize, x: usize, y: usize) -> usize
-    requires { ⌜ at + length (claim-bytes (found (win-in (now strengths .pairwise)) (now strengths .pairwise .counts .candidates)) x y) ≤ length (now sheet) ⌝ }
-    ensures { λ r. ⌜ Wrote (claim-bytes (found (win-in (now (strengths .entry) .pairwise)) (now (strengths .entry) .pairwise .counts .candidates)) x y) at (now (sheet .entry)) (now (sheet .exit)) r ⌝ }
+    requires { ⌜ at + length (claim-bytes (found-in (now strengths .pairwise)) x y) ≤ length (now sheet) ⌝ }
+    ensures { λ r. ⌜ Wrote (claim-bytes (found-in (now (strengths .entry) .pairwise)) x y) at (now (sheet .entry)) (now (sheet .exit)) r ⌝ }
 {
     if x == y {
         return at;
     }
     let mut path = [0u8; MOST_CANDIDATES];
     let count = strengths.write_path(x, y, &mut path, 0);
-    let count_at = write_two(sheet, at, strengths.at(x, y));
+    let count_at = write_number(sheet, at, strengths.at(x, y));
     let path_at = write_at(sheet, count_at, &[count as u8]);
     let cut_at = write_at(sheet, path_at, &path[..count]);
-    write_four(sheet, cut_at, strengths.cut(x, y))
+    write_set(sheet, cut_at, strengths.cut(x, y))
 }
 
 // Writes the entries of x.
@@ -93,8 +89,8 @@ fn write_claims(strengths: &Strengths, sheet: &mut [u8], at: usize, x: usize) ->
 
 // Writes the entries of all pairs.
 fn write_entries(strengths: &Strengths, sheet: &mut [u8], at: usize) -> usize
-    requires { ⌜ at + length (joined (claims-bytes (now strengths .pairwise)) (counting 0 (now strengths .pairwise .counts .candidates))) ≤ length (now sheet) ⌝ }
-    ensures { λ r. ⌜ Wrote (joined (claims-bytes (now (strengths .entry) .pairwise)) (counting 0 (now (strengths .entry) .pairwise .counts .candidates))) at (now (sheet .entry)) (now (sheet .exit)) r ⌝ }
+    requires { ⌜ at + length (entries-bytes (now strengths .pairwise)) ≤ length (now sheet) ⌝ }
+    ensures { λ r. ⌜ Wrote (entries-bytes (now (strengths .entry) .pairwise)) at (now (sheet .entry)) (now (sheet .exit)) r ⌝ }
 {
     let mut at = at;
     for x in 0..strengths.pairwise.counts.candidates {
@@ -106,9 +102,9 @@ fn write_entries(strengths: &Strengths, sheet: &mut [u8], at: usize) -> usize
 // Writes the certificate to the front of the slice, and answers its length.
 pub(crate) fn write_certificate(strengths: &Strengths, best: u32, sheet: &mut [u8]) -> usize
     requires { ⌜ longest (now strengths .pairwise .counts .candidates) ≤ length (now sheet) ⌝ }
-    ensures { λ r. ⌜ Wrote (certificate-of (now (strengths .entry) .pairwise .counts .candidates) (entry (now (strengths .entry) .pairwise .counts)) (found (win-in (now (strengths .entry) .pairwise)) (now (strengths .entry) .pairwise .counts .candidates)) best) 0 (now (sheet .entry)) (now (sheet .exit)) r ⌝ }
+    ensures { λ r. ⌜ Wrote (certificate-in (now (strengths .entry) .pairwise) best) 0 (now (sheet .entry)) (now (sheet .exit)) r ⌝ }
 {
     let entries_at = write_table(&strengths.pairwise, sheet);
     let best_at = write_entries(strengths, sheet, entries_at);
-    write_four(sheet, best_at, best)
+    write_set(sheet, best_at, best)
 }

@@ -1,5 +1,5 @@
 -- The outcome of the whole count, from what its parts answer.
-use mathlib.Core.Path.{_≡_, refl, sym, _∙_, ap, subst}
+use mathlib.Core.Path.{_≡_, refl, sym, _∙_}
 use mathlib.Core.Bool.{Bool, true}
 use mathlib.Core.List.{List, [], _∷_, _++_}
 use Prim.Native.Nat.{ℕ, _≤_, _<_}
@@ -12,21 +12,19 @@ use Rattle.std.specs.declared.result.Result.{Result}
 use Rattle.std.specs.declared.result.Result.the-variants.{Ok}
 use Rattle.ballots.specs.declared.refusal.Refusal.{Refusal}
 use Rattle.ballots.specs.Format.{unranked, candidates-in, ballots-in, ballots-of}
-use Rattle.ballots.specs.Lending.{or-else, answered, written}
+use Rattle.ballots.specs.Lending.{or-else, answered}
 use Rattle.ballots.specs.Refusals.{refusal}
 use Rattle.ballots.specs.Sets.{holds}
-use Rattle.pairwise.specs.Counts.{count, win-by, win}
-use Rattle.paths.specs.Paths.{below, strength}
+use Rattle.pairwise.specs.Counts.{count, win}
+use Rattle.paths.specs.Paths.{below}
 use Rattle.paths.proofs.Walks.{in-below, below-in}
-use Rattle.best.specs.Answers.{Best-of}
 use Rattle.best.specs.Best.{Ahead, Best}
-use Rattle.best.specs.Compared.{best-by, Best-set, Order-by}
+use Rattle.best.specs.Compared.{Best-set}
 use Rattle.best.specs.Orders.{Full-order}
 use Rattle.best.proofs.Maximal.{some-best}
-use Rattle.best.proofs.Meanings.{best-meaning}
 use Rattle.best.proofs.Places.{first-is-best}
 use Rattle.certificate.specs.declared.Certified.{Certified}
-use Rattle.certificate.specs.Certified.{room-refusal, certify-refusal, told, certificate-by, Certifies}
+use Rattle.certificate.specs.Certified.{room-refusal, certify-refusal, certificate-by, Certifies}
 use Rattle.certificate.specs.Judge.{judge}
 use Rattle.tiebreak.specs.declared.outcome.Outcome.{Outcome}
 use Rattle.tiebreak.specs.Draws.{draw-refusal}
@@ -40,12 +38,6 @@ said (Some e) a b h = let z : _≡_ {A = ℕ} 0 1 = cc in absurd (omega arith)
 neither : (first second : Option Refusal) → or-else first second ≡ None → (first ≡ None) × (second ≡ None)
 neither None second h = (refl, h)
 neither (Some e) second h = let z : _≡_ {A = ℕ} 0 1 = cc in absurd (omega arith)
-
--- the set that the certificate tells of is that of the best
-pub best-told : (bs : List ℕ) → refusal bs ≡ None → Best-of bs (told bs .best)
-unfolding win
-best-told bs none =
-    record { accepted = none; best = best-meaning (win-by (count unranked (ballots-of bs))) (candidates-in bs) }
 
 -- somebody is among the best
 somebody : (w : ℕ → ℕ → ℕ) (v s : ℕ) → 1 ≤ v → Best-set w v s → (x : ℕ) × (x < v) × (holds s x ≡ true)
@@ -80,9 +72,9 @@ pub leaves : (bs draw table table′ strengths strengths′ sheet sheet′ : Lis
     Leaves bs (count-refusal bs draw (length table) (length strengths) (length sheet)) table table′ strengths strengths′ sheet sheet′
 leaves bs draw table table′ strengths strengths′ sheet sheet′ r none none′ c =
     record {
-      counts = c .counts ∙ rw (none, none′);
-      strong = c .strong ∙ rw (none, none′);
-      certificate = c .certificate ∙ rw (none, none′);
+      counts = c .table-after ∙ rw (none, none′);
+      strong = c .strengths-after ∙ rw (none, none′);
+      certificate = c .sheet-after ∙ rw (none, none′);
     }
 
 -- nothing is refused where no part is

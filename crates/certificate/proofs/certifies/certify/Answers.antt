@@ -1,6 +1,6 @@
 use mathlib.Core.Path.{sym}
 use lib.ListN.{length}
-use Rattle.certificate.proofs.Certifying.{room-parts, copied-never, table-fits, strengths-fit, certified}
+use Rattle.certificate.proofs.Certifying.{room-parts, copied-never, table-fits, strengths-fit, all-written}
 use Rattle.certificate.proofs.certifies.certify.Needs as need
 
 pub returns-in-Break-copy-to : need.returns-in-Break-copy-to
@@ -17,8 +17,8 @@ returns-in-Break-copy-to-2 c =
 
 pub returns : need.returns
 returns c =
-    let k = certified _ _ _ _ _ _ _ _ _ _ _ (c .in-Continue-pairwise .ensures tt) (c .of-found .ensures .same)
+    let k = all-written _ _ _ _ _ _ _ _ _ _ _ (c .in-Continue-pairwise .ensures tt) (c .of-found .ensures .same)
     (room-parts _ _ _ _ (sym (c .in-Continue-check-room .ensures tt)))
     (c .in-Continue-copy-to .ensures tt) (c .in-Continue-copy-to-2 .ensures tt) (c .best-best .ensures .value) (c .write-certificate-length .ensures)
     (λ i. c .typed .bytes i .fits) in
-    record { written = k .0; accepted = k .1 }
+    record { written = k .0; best = k .1; accepted = k .2 }

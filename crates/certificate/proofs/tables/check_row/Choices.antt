@@ -4,7 +4,8 @@ use Rattle.std.specs.Iters.{counting}
 use Rattle.std.specs.Joined.{joined}
 use Rattle.pairwise.specs.Grids.{entry}
 use Rattle.certificate.specs.Layout.{two-bytes}
-use Rattle.certificate.specs.Progress.{past, row-bytes}
+use Rattle.certificate.specs.Parts.{row-bytes}
+use Rattle.certificate.specs.Progress.{past}
 use Rattle.certificate.proofs.tables.check_row.Given as given
 
 abbrev pub Inv-loop-y : given.InvT-loop-y

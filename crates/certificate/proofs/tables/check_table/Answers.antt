@@ -2,11 +2,11 @@ use mathlib.Core.Path.{sym, _∙_}
 use mathlib.Core.List.{List, _∷_, []}
 use Prim.Native.Nat.{ℕ}
 use native.Mathlib.Nat.{sub-zero}
+use Rattle.std.specs.Iters.{counting}
+use Rattle.std.specs.Joined.{joined}
 use Rattle.std.proofs.shelf.Results.{err-from-errBy}
 use Rattle.pairwise.specs.declared.Pairwise.{Pairwise}
-use Rattle.pairwise.specs.Grids.{entry}
-use Rattle.certificate.specs.Layout.{two-bytes, all-pairs}
-use Rattle.certificate.specs.Progress.{row-bytes}
+use Rattle.certificate.specs.Parts.{row-bytes}
 use Rattle.certificate.proofs.Arrivals.{past-on, past-stop, bytes-on, bytes-stop, bytes-end}
 use Rattle.certificate.proofs.tables.check_table.Needs as need
 
@@ -14,7 +14,7 @@ abbrev first : Pairwise → List ℕ
 first t = t .counts .candidates ∷ []
 
 abbrev rest : Pairwise → List ℕ
-rest t = all-pairs (t .counts .candidates) (λ x y. two-bytes (entry (t .counts) x y))
+rest t = joined (row-bytes t) (counting 0 (t .counts .candidates))
 
 pub returns-in-Break-at : need.returns-in-Break-at
 returns-in-Break-at c =

@@ -14,14 +14,14 @@ part t x y = two-bytes (entry (t .counts) x y)
 pub loop-y-holds : need.loop-y-holds
 loop-y-holds c = wrote-none _ _
 
-pub write-two-at-requires : need.write-two-at-requires
-write-two-at-requires c κs =
+pub write-number-at-requires : need.write-number-at-requires
+write-number-at-requires c κs =
     part-fits (part (c .args .table .now) (c .args .x)) _ _ _ (c .loop-y-test .taken) (c .pre) (c .loop-y .kept .sheet) (c .loop-y .inv)
 
 pub loop-y-again : need.loop-y-again
 loop-y-again c =
     wrote-next (part (c .args .table .now) (c .args .x)) _ _ _ (c .loop-y-test .taken) (c .pre) (c .loop-y .inv)
-    (wrote-as (ap two-bytes (c .preferring .ensures)) (c .write-two-at .ensures))
+    (wrote-as (ap two-bytes (c .preferring .ensures)) (c .write-number-at .ensures))
 
 pub returns : need.returns
 returns c = wrote-all (part (c .args .table .now) (c .args .x)) _ _ _ (omega arith) (c .loop-y .inv)

@@ -1,5 +1,5 @@
 use native.Mathlib.Omega.{arith}
-use Rattle.certificate.specs.Progress.{claims-bytes}
+use Rattle.certificate.specs.Parts.{claims-bytes}
 use Rattle.certificate.proofs.Writing.{wrote-none, part-fits, wrote-next, wrote-all}
 use Rattle.certificate.proofs.writes.write_entries.Needs as need
 

@@ -1,7 +1,7 @@
 use Rattle.std.specs.Iters.{counting}
 use Rattle.std.specs.Joined.{joined}
 use Rattle.paths.specs.Found.{Wrote}
-use Rattle.certificate.specs.Progress.{claims-bytes}
+use Rattle.certificate.specs.Parts.{claims-bytes}
 use Rattle.certificate.proofs.writes.write_entries.Given as given
 
 abbrev pub Inv-loop-x : given.InvT-loop-x

@@ -7,7 +7,7 @@ use Rattle.std.specs.Iters.{counting}
 use Rattle.std.specs.Joined.{joined}
 use Rattle.paths.proofs.Written.{wrote-both}
 use Rattle.pairwise.specs.declared.Pairwise.{Pairwise}
-use Rattle.certificate.specs.Progress.{row-bytes}
+use Rattle.certificate.specs.Parts.{row-bytes}
 use Rattle.certificate.proofs.Writing.{wrote-none, part-fits, wrote-next, wrote-all}
 use Rattle.certificate.proofs.writes.write_table.Needs as need
 

@@ -1,7 +1,7 @@
 use Rattle.std.specs.Iters.{counting}
 use Rattle.std.specs.Joined.{joined}
 use Rattle.paths.specs.Found.{Wrote}
-use Rattle.certificate.specs.Progress.{row-bytes}
+use Rattle.certificate.specs.Parts.{row-bytes}
 use Rattle.certificate.proofs.writes.write_table.Given as given
 
 abbrev pub Inv-loop-x : given.InvT-loop-x

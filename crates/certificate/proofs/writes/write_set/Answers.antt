@@ -2,7 +2,7 @@ use native.Mathlib.Omega.{arith}
 use mathlib.Core.Path.{ap}
 use lib.ListN.{length}
 use Rattle.certificate.proofs.Writing.{wrote-as}
-use Rattle.certificate.proofs.writes.write_four.Needs as need
+use Rattle.certificate.proofs.writes.write_set.Needs as need
 
 pub write-at-requires : need.write-at-requires
 write-at-requires c κs = omega (arith, ap length (c .to-le-bytes .ensures))
