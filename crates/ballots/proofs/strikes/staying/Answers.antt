@@ -7,8 +7,8 @@ use Rattle.ballots.proofs.strikes.staying.Goals.{then-holds, else-holds}
 pub loop-x-init : goal.loop-x-init
 loop-x-init c = sym (ap length (kept_none (holds c.args.keep)))
 
-pub overflow-add-number : goal.overflow-add-number
-overflow-add-number c = omega (arith, number_le (holds c.args.keep) c.loop-x.x)
+pub overflow_add-number : goal.overflow_add-number
+overflow_add-number c = omega (arith, number_le (holds c.args.keep) c.loop-x.x)
 
 pub loop-x-preserved : goal.loop-x-preserved
 loop-x-preserved c = elim c.if-holds.branch [

@@ -13,8 +13,8 @@ pub bounds-out-at : goal.bounds-out-at
 bounds-out-at c =
     omega (arith, number_lt (holds c.args.keep) c.loop-x.x (length c.args.ballot.now) (omega arith) (sym c.if-holds.ensures))
 
-pub overflow-add-at : goal.overflow-add-at
-overflow-add-at c =
+pub overflow_add-at : goal.overflow_add-at
+overflow_add-at c =
     omega (arith, number_lt (holds c.args.keep) c.loop-x.x (length c.args.ballot.now) (omega arith) (sym c.if-holds.ensures))
 
 pub loop-x-preserved : goal.loop-x-preserved

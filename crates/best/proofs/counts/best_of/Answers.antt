@@ -11,7 +11,7 @@ pub returns : goal.returns
 returns c =
     let bs = c.args.bytes.now in
     let s : ℕ = c.best.result in
-    let b : BestOf bs s = best_tabled bs c.in-ok-pairwise.pairwise c.in-ok-pairwise.ensures s
+    let b : BestOf bs s = best_tabled bs c.in_ok-pairwise.pairwise c.in_ok-pairwise.ensures s
     (subst (λ (p : Pairwise). BestSet (win_in p) p.counts.candidates s) c.of.ensures.same c.best.ensures.meaning) in
     let (clones, one) = answers_independent bs (Ok s) b in
     record { counts = b; clones = clones; one = one }

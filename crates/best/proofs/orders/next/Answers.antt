@@ -11,7 +11,7 @@ loop-x-preserved c =
     let t = c.args.strengths.now.pairwise in
     let left : ℕ → Bool = marked c.args.left.now in
     let unbeaten : ℕ → Bool = unbeaten_by (strength_in t) t.counts.candidates left in
-    let before : ℕ → ℕ → Bool = before_by c.args.tie-break.now.keys in
+    let before : ℕ → ℕ → Bool = before_by c.args.tie_break.now.keys in
     let x : ℕ = c.loop-x.x in
     elim c.if-left-x.branch [
       | then-left-x+then-unbeaten w ↦

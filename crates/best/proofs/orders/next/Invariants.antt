@@ -6,6 +6,6 @@ use Rattle.best.proofs.orders.next.Given as goal
 
 abbrev pub invariant-loop-x : goal.invariant-loop-x
 invariant-loop-x l =
-    l.found ≡ first_below (before_by l.tie-break.keys)
+    l.found ≡ first_below (before_by l.tie_break.keys)
     (λ x. marked l.left x && unbeaten_by (strength_in l.strengths.pairwise) l.strengths.pairwise.counts.candidates (marked l.left) x)
     l.x

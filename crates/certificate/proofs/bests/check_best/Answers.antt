@@ -8,9 +8,9 @@ pub returns-then-end-at-lt4 : goal.returns-then-end-at-lt4
 unfolding best_demands
 returns-then-end-at-lt4 c = grind (arith, nat_tests)
 
-pub returns-then-four-at-unbeaten-set : goal.returns-then-four-at-unbeaten-set
+pub returns-then-four_at-unbeaten_set : goal.returns-then-four_at-unbeaten_set
 unfolding best_demands
-returns-then-four-at-unbeaten-set c = let k = kept_best _ _ _ c.requires.kept.1 in grind (arith, nat_tests)
+returns-then-four_at-unbeaten_set c = let k = kept_best _ _ _ c.requires.kept.1 in grind (arith, nat_tests)
 
 pub returns-then-at-end : goal.returns-then-at-end
 unfolding best_demands

@@ -6,12 +6,12 @@ use Rattle.certificate.proofs.checks.check.Goals as goal
 
 pub returns : goal.returns
 returns c =
-    let v = c.check-against.ensures ∙ ap (λ o. answered o tt) (judged _ _ _ c.in-ok-table.ensures) in
+    let v = c.check_against.ensures ∙ ap (λ o. answered o tt) (judged _ _ _ c.in_ok-table.ensures) in
     record {
       verdict = v;
       truth = λ h. accepted_true _ _ (answered_ok _ _ _ (sym v ∙ h)).0;
       exact = (
-        (λ h. accepted_said _ _ (λ i. (c.type-inv.sheet i).fits) (answered_ok _ _ _ (sym v ∙ h)).0),
-        λ s. v ∙ ap (λ o. answered o tt) (said_judged _ _ (λ i. (c.type-inv.bytes i).fits) s),
+        (λ h. accepted_said _ _ (λ i. (c.type_inv.sheet i).fits) (answered_ok _ _ _ (sym v ∙ h)).0),
+        λ s. v ∙ ap (λ o. answered o tt) (said_judged _ _ (λ i. (c.type_inv.bytes i).fits) s),
       );
     }

@@ -13,26 +13,26 @@ returns-then-x-y c =
       kept = kept_same _ _ _ _ _ c.if-x-y.true;
     }
 
-pub returns-in-err-next : goal.returns-in-err-next
-returns-in-err-next c =
-    let p = err_from_is_err_and c.from-residual.result c.from-residual.ensures.1 in
+pub returns-in_err-next : goal.returns-in_err-next
+returns-in_err-next c =
+    let p = err_from_is_err_and c.from_residual.result c.from_residual.ensures.1 in
     record {
-      answer = rw (p.1, p.2, claim_other _ _ _ _ _ c.if-x-y.false) c.in-err-next.ensures;
+      answer = rw (p.1, p.2, claim_other _ _ _ _ _ c.if-x-y.false) c.in_err-next.ensures;
       next = rw p.1 tt;
       kept = rw p.1 tt;
     }
 
-pub two-at-requires : goal.two-at-requires
-two-at-requires c = let p = entry_end _ _ _ _ _ _ c.if-x-y.false (sym c.in-ok-next.ensures) in omega arith
+pub two_at-requires : goal.two_at-requires
+two_at-requires c = let p = entry_end _ _ _ _ _ _ c.if-x-y.false (sym c.in_ok-next.ensures) in omega arith
 
 pub returns : goal.returns
 returns c =
-    let h = sym c.in-ok-next.ensures in
+    let h = sym c.in_ok-next.ensures in
     let e = entry_end _ _ _ _ _ _ c.if-x-y.false h in
     record {
       answer = rw (claim_other _ _ _ _ _ c.if-x-y.false) (sym h);
       next = record { is = e.2; within = e.1 };
       kept =
           kept_next _ _ _ _ _ _ (search rules) c.requires.pair.0 c.requires.pair.1 c.requires.room
-          (c.two-at.ensures ∙ rw c.requires.here.is);
+          (c.two_at.ensures ∙ rw c.requires.here.is);
     }

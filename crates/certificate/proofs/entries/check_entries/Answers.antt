@@ -17,19 +17,19 @@ row t sheet x = flat_map (claim_demands (win_in t) t.counts.candidates sheet x) 
 pub loop-x-init : goal.loop-x-init
 loop-x-init c = (c.requires.here, simp sub-zero, kept_none _ _ _)
 
-pub check-row-requires : goal.check-row-requires
-check-row-requires c =
+pub check_row-requires : goal.check_row-requires
+check_row-requires c =
     record { one = c.loop-x-test.true; here = c.loop-x.invariant.0; room = c.loop-x.auto.strengths ∙ c.requires.room }
 
-pub returns-in-err-at : goal.returns-in-err-at
-returns-in-err-at c =
-    let p = err_from_is_err_and c.from-residual.result c.from-residual.ensures.1 in
-    let e = demands_stop (row c.args.table.now c.args.sheet.now) _ _ _ _ _ c.loop-x-test.true (sym c.in-err-at.ensures.answer) in
+pub returns-in_err-at : goal.returns-in_err-at
+returns-in_err-at c =
+    let p = err_from_is_err_and c.from_residual.result c.from_residual.ensures.1 in
+    let e = demands_stop (row c.args.table.now c.args.sheet.now) _ _ _ _ _ c.loop-x-test.true (sym c.in_err-at.ensures.answer) in
     record { answer = rw (p.1, p.2) (sym e ∙ c.loop-x.invariant.1); next = rw p.1 tt; kept = rw p.1 tt }
 
 pub loop-x-preserved : goal.loop-x-preserved
 loop-x-preserved c =
-    let h = c.in-ok-at.ensures in
+    let h = c.in_ok-at.ensures in
     let e = demands_on (row c.args.table.now c.args.sheet.now) _ _ _ _ _ c.loop-x-test.true (sym h.answer) in
     (h.next, sym e ∙ c.loop-x.invariant.1, h.kept c.loop-x.invariant.2)
 

@@ -10,19 +10,19 @@ use Rattle.certificate.proofs.entries.check_row.Goals as goal
 pub loop-y-init : goal.loop-y-init
 loop-y-init c = (c.requires.here, simp sub-zero, λ k. k)
 
-pub check-claim-requires : goal.check-claim-requires
-check-claim-requires c =
+pub check_claim-requires : goal.check_claim-requires
+check_claim-requires c =
     record { pair = (c.requires.one, c.loop-y-test.true); here = c.loop-y.invariant.0; room = c.loop-y.auto.strengths ∙ c.requires.room }
 
-pub returns-in-err-at : goal.returns-in-err-at
-returns-in-err-at c =
-    let p = err_from_is_err_and c.from-residual.result c.from-residual.ensures.1 in
-    let e = demands_stop _ _ _ _ _ _ c.loop-y-test.true (sym c.in-err-at.ensures.answer) in
+pub returns-in_err-at : goal.returns-in_err-at
+returns-in_err-at c =
+    let p = err_from_is_err_and c.from_residual.result c.from_residual.ensures.1 in
+    let e = demands_stop _ _ _ _ _ _ c.loop-y-test.true (sym c.in_err-at.ensures.answer) in
     record { answer = rw (p.1, p.2) (sym e ∙ c.loop-y.invariant.1); next = rw p.1 tt; kept = rw p.1 tt }
 
 pub loop-y-preserved : goal.loop-y-preserved
 loop-y-preserved c =
-    let h = c.in-ok-at.ensures in
+    let h = c.in_ok-at.ensures in
     (h.next, sym (demands_on _ _ _ _ _ _ c.loop-y-test.true (sym h.answer)) ∙ c.loop-y.invariant.1, λ k. h.kept (c.loop-y.invariant.2 k))
 
 pub returns : goal.returns

@@ -5,15 +5,15 @@ use Rattle.pairwise.specs.Grids.{entry}
 use Rattle.certificate.proofs.Arrivals.{bytes_on, bytes_stop, bytes_end}
 use Rattle.certificate.proofs.tables.check_row.Goals as goal
 
-pub returns-in-err-at : goal.returns-in-err-at
-returns-in-err-at c =
-    let p = err_from_is_err_and c.from-residual.result c.from-residual.ensures.1 in
-    let e = bytes_stop _ (λ y. two_bytes (entry c.args.table.now.counts c.args.x y)) _ _ _ _ c.loop-y-test.true (sym c.in-err-at.ensures) in
+pub returns-in_err-at : goal.returns-in_err-at
+returns-in_err-at c =
+    let p = err_from_is_err_and c.from_residual.result c.from_residual.ensures.1 in
+    let e = bytes_stop _ (λ y. two_bytes (entry c.args.table.now.counts c.args.x y)) _ _ _ _ c.loop-y-test.true (sym c.in_err-at.ensures) in
     rw (p.1, p.2) (sym e ∙ c.loop-y.invariant)
 
 pub loop-y-preserved : goal.loop-y-preserved
 loop-y-preserved c =
-    sym (bytes_on _ (λ y. two_bytes (entry c.args.table.now.counts c.args.x y)) _ _ _ _ c.loop-y-test.true (sym c.in-ok-at.ensures))
+    sym (bytes_on _ (λ y. two_bytes (entry c.args.table.now.counts c.args.x y)) _ _ _ _ c.loop-y-test.true (sym c.in_ok-at.ensures))
     ∙ c.loop-y.invariant
 
 pub returns : goal.returns

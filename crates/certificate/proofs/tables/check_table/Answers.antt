@@ -13,26 +13,26 @@ first t = t.counts.candidates ∷ []
 abbrev rest : Pairwise → List ℕ
 rest t = flat_map (row_bytes t) (range_with_len 0 t.counts.candidates)
 
-pub returns-in-err-at : goal.returns-in-err-at
-returns-in-err-at c =
-    let p = err_from_is_err_and c.from-residual.result c.from-residual.ensures.1 in
-    let e = past_stop c.args.sheet.now 0 _ (first c.args.table.now) (rest c.args.table.now) (sym c.in-err-at.ensures) in
+pub returns-in_err-at : goal.returns-in_err-at
+returns-in_err-at c =
+    let p = err_from_is_err_and c.from_residual.result c.from_residual.ensures.1 in
+    let e = past_stop c.args.sheet.now 0 _ (first c.args.table.now) (rest c.args.table.now) (sym c.in_err-at.ensures) in
     rw (p.1, p.2) (sym e)
 
 pub loop-x-init : goal.loop-x-init
 loop-x-init c =
     simp sub-zero
-    (sym (past_on c.args.sheet.now 0 c.in-ok-at.at (first c.args.table.now) (rest c.args.table.now) (sym c.in-ok-at.ensures)))
+    (sym (past_on c.args.sheet.now 0 c.in_ok-at.at (first c.args.table.now) (rest c.args.table.now) (sym c.in_ok-at.ensures)))
 
-pub returns-in-err-at-2 : goal.returns-in-err-at-2
-returns-in-err-at-2 c =
-    let p = err_from_is_err_and c.from-residual-in-err-at-2.result c.from-residual-in-err-at-2.ensures.1 in
-    let e = bytes_stop _ (row_bytes c.args.table.now) _ _ _ _ c.loop-x-test.true (sym c.in-err-at-2.ensures) in
+pub returns-in_err-at-2 : goal.returns-in_err-at-2
+returns-in_err-at-2 c =
+    let p = err_from_is_err_and c.from_residual-in_err-at-2.result c.from_residual-in_err-at-2.ensures.1 in
+    let e = bytes_stop _ (row_bytes c.args.table.now) _ _ _ _ c.loop-x-test.true (sym c.in_err-at-2.ensures) in
     rw (p.1, p.2) (sym e ∙ c.loop-x.invariant)
 
 pub loop-x-preserved : goal.loop-x-preserved
 loop-x-preserved c =
-    sym (bytes_on _ (row_bytes c.args.table.now) _ _ _ _ c.loop-x-test.true (sym c.in-ok-at-2.ensures)) ∙ c.loop-x.invariant
+    sym (bytes_on _ (row_bytes c.args.table.now) _ _ _ _ c.loop-x-test.true (sym c.in_ok-at-2.ensures)) ∙ c.loop-x.invariant
 
 pub returns : goal.returns
 returns c = sym (bytes_end _ (row_bytes c.args.table.now) _ _ _ c.loop-x-test.false) ∙ c.loop-x.invariant

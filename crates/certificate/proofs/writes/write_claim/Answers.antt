@@ -15,32 +15,32 @@ room t x y at n ne h = omega (arith, claim_length (found_in t) x y ne)
 pub returns-then-x-y : goal.returns-then-x-y
 returns-then-x-y c = wrote_as (sym (claim_none _ _ _ c.if-x-y.true)) (wrote_none _ _)
 
-pub write-number-count-at-requires : goal.write-number-count-at-requires
-write-number-count-at-requires c = let fits = room c.args.strengths.now.pairwise _ _ _ _ c.if-x-y.false c.requires in omega arith
+pub write_number-count_at-requires : goal.write_number-count_at-requires
+write_number-count_at-requires c = let fits = room c.args.strengths.now.pairwise _ _ _ _ c.if-x-y.false c.requires in omega arith
 
-pub write-at-path-at-requires : goal.write-at-path-at-requires
-write-at-path-at-requires c =
+pub write_at-path_at-requires : goal.write_at-path_at-requires
+write_at-path_at-requires c =
     let fits = room c.args.strengths.now.pairwise _ _ _ _ c.if-x-y.false c.requires in
-    omega (arith, c.write-number-count-at.ensures.stop, c.write-number-count-at.auto.sheet)
+    omega (arith, c.write_number-count_at.ensures.stop, c.write_number-count_at.auto.sheet)
 
-pub write-at-cut-at-requires : goal.write-at-cut-at-requires
-write-at-cut-at-requires c =
+pub write_at-cut_at-requires : goal.write_at-cut_at-requires
+write_at-cut_at-requires c =
     let fits = room c.args.strengths.now.pairwise _ _ _ _ c.if-x-y.false c.requires in
-    let front = path_front _ _ _ _ _ _ c.write-path-count.ensures refl in
-    omega (arith, ap length front, c.write-number-count-at.ensures.stop, c.write-number-count-at.auto.sheet, c.write-at-path-at.ensures.stop, c.write-at-path-at.auto.sheet)
+    let front = path_front _ _ _ _ _ _ c.write_path-count.ensures refl in
+    omega (arith, ap length front, c.write_number-count_at.ensures.stop, c.write_number-count_at.auto.sheet, c.write_at-path_at.ensures.stop, c.write_at-path_at.auto.sheet)
 
-pub write-set-requires : goal.write-set-requires
-write-set-requires c =
+pub write_set-requires : goal.write_set-requires
+write_set-requires c =
     let fits = room c.args.strengths.now.pairwise _ _ _ _ c.if-x-y.false c.requires in
-    let front = path_front _ _ _ _ _ _ c.write-path-count.ensures refl in
-    omega (arith, ap length front, c.write-number-count-at.ensures.stop, c.write-number-count-at.auto.sheet, c.write-at-path-at.ensures.stop, c.write-at-path-at.auto.sheet, c.write-at-cut-at.ensures.stop, c.write-at-cut-at.auto.sheet)
+    let front = path_front _ _ _ _ _ _ c.write_path-count.ensures refl in
+    omega (arith, ap length front, c.write_number-count_at.ensures.stop, c.write_number-count_at.auto.sheet, c.write_at-path_at.ensures.stop, c.write_at-path_at.auto.sheet, c.write_at-cut_at.ensures.stop, c.write_at-cut_at.auto.sheet)
 
 pub returns : goal.returns
 returns c =
-    let w = c.write-path-count.ensures in
+    let w = c.write_path-count.ensures in
     wrote_as (sym (claim_other _ _ _ c.if-x-y.false))
     (wrote_entry _ _ _ _ (path_count _ _ _ _ _ _ w refl) (room c.args.strengths.now.pairwise _ _ _ _ c.if-x-y.false c.requires)
-    (wrote_as (ap two_bytes c.at.ensures.is) c.write-number-count-at.ensures)
-    c.write-at-path-at.ensures
-    (wrote_as (path_front _ _ _ _ _ _ w refl) c.write-at-cut-at.ensures)
-    (wrote_as (ap four_bytes c.cut.ensures.is) c.write-set.ensures))
+    (wrote_as (ap two_bytes c.at.ensures.is) c.write_number-count_at.ensures)
+    c.write_at-path_at.ensures
+    (wrote_as (path_front _ _ _ _ _ _ w refl) c.write_at-cut_at.ensures)
+    (wrote_as (ap four_bytes c.cut.ensures.is) c.write_set.ensures))

@@ -11,14 +11,14 @@ part t x y = two_bytes (entry t.counts x y)
 pub loop-y-init : goal.loop-y-init
 loop-y-init c = wrote_none _ _
 
-pub write-number-at-requires : goal.write-number-at-requires
-write-number-at-requires c =
+pub write_number-at-requires : goal.write_number-at-requires
+write_number-at-requires c =
     part_fits (part c.args.table.now c.args.x) _ _ _ c.loop-y-test.true c.requires c.loop-y.auto.sheet c.loop-y.invariant
 
 pub loop-y-preserved : goal.loop-y-preserved
 loop-y-preserved c =
     wrote_next (part c.args.table.now c.args.x) _ _ _ c.loop-y-test.true c.requires c.loop-y.invariant
-    (wrote_as (ap two_bytes c.preferring.ensures) c.write-number-at.ensures)
+    (wrote_as (ap two_bytes c.preferring.ensures) c.write_number-at.ensures)
 
 pub returns : goal.returns
 returns c = wrote_all (part c.args.table.now c.args.x) _ _ _ (omega arith) c.loop-y.invariant

@@ -12,19 +12,19 @@ rest t = flat_map (row_bytes t) (range_with_len 0 t.counts.candidates)
 pub loop-x-init : goal.loop-x-init
 loop-x-init c = wrote_none _ _
 
-pub write-counts-at-requires : goal.write-counts-at-requires
-write-counts-at-requires c =
-    let room : c.write-at-at.result + length (rest c.args.table.now) ≤ length c.write-at-at.new.sheet =
-    omega (arith, c.requires, c.write-at-at.ensures.stop, c.write-at-at.auto.sheet) in
+pub write_counts-at-requires : goal.write_counts-at-requires
+write_counts-at-requires c =
+    let room : c.write_at-at.result + length (rest c.args.table.now) ≤ length c.write_at-at.new.sheet =
+    omega (arith, c.requires, c.write_at-at.ensures.stop, c.write_at-at.auto.sheet) in
     part_fits (row_bytes c.args.table.now) _ _ _ c.loop-x-test.true room c.loop-x.auto.sheet c.loop-x.invariant
 
 pub loop-x-preserved : goal.loop-x-preserved
 loop-x-preserved c =
-    let room : c.write-at-at.result + length (rest c.args.table.now) ≤ length c.write-at-at.new.sheet =
-    omega (arith, c.requires, c.write-at-at.ensures.stop, c.write-at-at.auto.sheet) in
-    wrote_next (row_bytes c.args.table.now) _ _ _ c.loop-x-test.true room c.loop-x.invariant c.write-counts-at.ensures
+    let room : c.write_at-at.result + length (rest c.args.table.now) ≤ length c.write_at-at.new.sheet =
+    omega (arith, c.requires, c.write_at-at.ensures.stop, c.write_at-at.auto.sheet) in
+    wrote_next (row_bytes c.args.table.now) _ _ _ c.loop-x-test.true room c.loop-x.invariant c.write_counts-at.ensures
 
 pub returns : goal.returns
 returns c =
     let e : c.loop-x.x ≡ c.args.table.now.counts.candidates = omega arith in
-    wrote_both refl (omega (arith, c.requires)) c.write-at-at.ensures (wrote_all (row_bytes c.args.table.now) _ _ _ e c.loop-x.invariant)
+    wrote_both refl (omega (arith, c.requires)) c.write_at-at.ensures (wrote_all (row_bytes c.args.table.now) _ _ _ e c.loop-x.invariant)

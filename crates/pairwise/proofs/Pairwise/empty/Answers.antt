@@ -6,8 +6,8 @@ use Rattle.pairwise.proofs.Cells.{zeros}
 use Rattle.pairwise.proofs.Preferences.{counted_none}
 use Rattle.pairwise.proofs.Pairwise.empty.Goals as goal
 
-pub invariant-of-result-2 : goal.invariant-of-result-2
-invariant-of-result-2 c = ((λ x y h. omega (arith, zeros cells (x * most_candidates + y))), tt)
+pub invariant_of-result-2 : goal.invariant_of-result-2
+invariant_of-result-2 c = ((λ x y h. omega (arith, zeros cells (x * most_candidates + y))), tt)
 
 pub returns : goal.returns
 returns c =

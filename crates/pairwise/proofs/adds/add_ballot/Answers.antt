@@ -14,7 +14,7 @@ loop-x-preserved c = (
               arith,
               c.loop-y.invariant.1 y (omega arith),
               c.loop-x.invariant.1 c.loop-x.x y (omega arith) k,
-              preference_by_key c.args.ballot.now c.keys-of-keys.result c.loop-x.x y c.keys-of-keys.ensures.ranked c.keys-of-keys.ensures.past (omega arith),
+              preference_by_key c.args.ballot.now c.keys_of-keys.result c.loop-x.x y c.keys_of-keys.ensures.ranked c.keys_of-keys.ensures.past (omega arith),
             ))
       ]),
   λ x y h k. c.loop-y.invariant.2 _ (omega arith) ∙ c.loop-x.invariant.1 x y (omega arith) k,

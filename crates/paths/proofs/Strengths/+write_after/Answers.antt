@@ -7,20 +7,20 @@ bounds-out-at t c =
     let e = alone c.args.self.now c.args.limit c.args.x c.args.y (omega arith) (omega arith) (omega arith) c.in-None.ensures in
     omega (arith, ap length e)
 
-pub write-after-next-requires : goal.write-after-next-requires
-write-after-next-requires t c =
+pub write_after-next-requires : goal.write_after-next-requires
+write_after-next-requires t c =
     let p = parted c.args.self.now c.args.limit c.args.x c.args.y (omega arith) (omega arith) (omega arith)
     c.in-Some.middle c.in-Some.ensures in (
       omega (arith, c.decreases, p.low),
       (omega arith, (omega (arith, p.low), (omega (arith, p.low), omega (arith, p.long)))),
     )
 
-pub write-after-requires : goal.write-after-requires
-write-after-requires t c =
+pub write_after-requires : goal.write_after-requires
+write_after-requires t c =
     let p = parted c.args.self.now c.args.limit c.args.x c.args.y (omega arith) (omega arith) (omega arith)
     c.in-Some.middle c.in-Some.ensures in (
       omega (arith, c.decreases, p.low),
-      (omega (arith, p.low), (omega arith, (omega (arith, p.low), omega (arith, p.long, c.write-after-next.ensures.stop)))),
+      (omega (arith, p.low), (omega arith, (omega (arith, p.low), omega (arith, p.long, c.write_after-next.ensures.stop)))),
     )
 
 pub returns-in-None : goal.returns-in-None
@@ -33,4 +33,4 @@ pub returns-in-Some : goal.returns-in-Some
 returns-in-Some t c =
     let p = parted c.args.self.now c.args.limit c.args.x c.args.y (omega arith) (omega arith) (omega arith)
     c.in-Some.middle c.in-Some.ensures in
-    wrote_both p.row c.requires.room c.write-after-next.ensures c.write-after.ensures
+    wrote_both p.row c.requires.room c.write_after-next.ensures c.write_after.ensures

@@ -1,4 +1,4 @@
 use Rattle.paths.proofs.Strengths.+write_after.Given as goal
 
-abbrev pub decreases-write-after : goal.decreases-write-after
-decreases-write-after l = l.limit
+abbrev pub decreases-write_after : goal.decreases-write_after
+decreases-write_after l = l.limit

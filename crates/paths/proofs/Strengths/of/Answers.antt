@@ -30,13 +30,13 @@ loop-x-preserved c = next_row c.loop-y.invariant (omega arith)
 pub loop-middle-preserved : goal.loop-middle-preserved
 loop-middle-preserved c = next_phase c.loop-x.invariant (omega arith)
 
-pub invariant-of-result-2 : goal.invariant-of-result-2
-invariant-of-result-2 c =
+pub invariant_of-result-2 : goal.invariant_of-result-2
+invariant_of-result-2 c =
     let t = c.args.pairwise.now in
     let done : c.loop-middle.middle ≡ t.counts.candidates = omega arith in (
       refl,
       (
-        all_strengths t c.loop-middle.invariant done c.clear-diagonal.new.cells c.clear-diagonal.ensures,
+        all_strengths t c.loop-middle.invariant done c.clear_diagonal.new.cells c.clear_diagonal.ensures,
         (all_middles t c.loop-middle.invariant done, tt),
       ),
     )
@@ -45,5 +45,5 @@ pub returns : goal.returns
 returns c =
     let t = c.args.pairwise.now in
     let done : c.loop-middle.middle ≡ t.counts.candidates = omega arith in
-    let strong = all_strengths t c.loop-middle.invariant done c.clear-diagonal.new.cells c.clear-diagonal.ensures in
-    record { same = refl; found = entry_strength t t.counts.candidates c.clear-diagonal.new.cells refl strong }
+    let strong = all_strengths t c.loop-middle.invariant done c.clear_diagonal.new.cells c.clear_diagonal.ensures in
+    record { same = refl; found = entry_strength t t.counts.candidates c.clear_diagonal.new.cells refl strong }

@@ -19,8 +19,8 @@ returns-then-at-out c =
     ] in
     none_fits t c.args.x c.args.y c.args.at c.args.out.now short
 
-pub write-after-requires : goal.write-after-requires
-write-after-requires c =
+pub write_after-requires : goal.write_after-requires
+write_after-requires c =
     let t = c.args.self.now.pairwise in
     let pos : 0 < strength_in t c.args.x c.args.y = omega (arith, c.at.ensures.is, c.if-at-eq0.false) in
     let two = pair_two t.counts.candidates c.args.x c.args.y
@@ -32,4 +32,4 @@ pub returns : goal.returns
 returns c =
     let t = c.args.self.now.pairwise in
     let pos : 0 < strength_in t c.args.x c.args.y = omega (arith, c.at.ensures.is, c.if-at-eq0.false) in
-    row_written t c.args.x c.args.y c.args.at c.args.out.now c.write-after.result _ pos (omega arith) c.write-after.ensures
+    row_written t c.args.x c.args.y c.args.at c.args.out.now c.write_after.result _ pos (omega arith) c.write_after.ensures

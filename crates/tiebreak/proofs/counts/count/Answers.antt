@@ -17,31 +17,31 @@ pub returns : goal.returns
 returns c =
     let bs : List ℕ = c.args.bytes.now in
     let draw : List ℕ = c.args.draw.now in
-    let h = c.in-ok-header.ensures in
-    let answer = c.in-ok-certified.certified in
-    let t : Pairwise = c.in-ok-pairwise.pairwise in
-    let tie = c.tie-break.result in
-    let certifies = c.in-ok-certified.ensures.written in
-    let (drawn, _) = said (draw_refusal c.in-ok-header.header.ballots draw) tt tt c.in-ok-check-draw.ensures in
+    let h = c.in_ok-header.ensures in
+    let answer = c.in_ok-certified.certified in
+    let t : Pairwise = c.in_ok-pairwise.pairwise in
+    let tie = c.tie_break.result in
+    let certifies = c.in_ok-certified.ensures.written in
+    let (drawn, _) = said (draw_refusal c.in_ok-header.header.ballots draw) tt tt c.in_ok-check_draw.ensures in
     let (room, is) = said (certify_refusal bs (length c.args.table.now) (length c.args.strengths.now) (length c.args.sheet.now)) (certified bs) answer certifies.answer in
-    let none = through bs draw c.in-ok-header.header.ballots (length c.args.table.now) (length c.args.strengths.now) (length c.args.sheet.now) h.ballots drawn room in
-    let b : BestOf bs answer.best = record { accepted = h.accepted; best = c.in-ok-certified.ensures.best } in
-    let o : Outcome = record { ballots = answer.ballots; best = answer.best; order = c.full-order-order.result; length = answer.length } in
+    let none = through bs draw c.in_ok-header.header.ballots (length c.args.table.now) (length c.args.strengths.now) (length c.args.sheet.now) h.ballots drawn room in
+    let b : BestOf bs answer.best = record { accepted = h.accepted; best = c.in_ok-certified.ensures.best } in
+    let o : Outcome = record { ballots = answer.ballots; best = answer.best; order = c.full_order-order.result; length = answer.length } in
     let outcome : OutcomeOf bs draw o = record {
       ballots = ap (λ k. k.ballots) is;
       best = b;
-      order = order_tabled bs t c.in-ok-pairwise.ensures (before_by tie.keys) (decided unranked (drawn_ballots bs draw)) c.full-order-order.result
-          (subst (λ (p : Pairwise). OrderOf p (before_by tie.keys) c.full-order-order.result) c.of.ensures.same c.full-order-order.ensures)
-          c.tie-break.ensures.order;
+      order = order_tabled bs t c.in_ok-pairwise.ensures (before_by tie.keys) (decided unranked (drawn_ballots bs draw)) c.full_order-order.result
+          (subst (λ (p : Pairwise). OrderOf p (before_by tie.keys) c.full_order-order.result) c.of.ensures.same c.full_order-order.ensures)
+          c.tie_break.ensures.order;
       length_is = ap (λ k. k.length) is;
     } in
-    let some : 1 ≤ candidates_in bs = omega (arith, h.candidates, c.in-ok-header.header.some) in
+    let some : 1 ≤ candidates_in bs = omega (arith, h.candidates, c.in_ok-header.header.some) in
     let (clones, one) = answers_independent bs (Ok answer.best) b in
     record {
       outcome = (none, outcome);
       slices = leaves bs draw c.args.table.now c.certify.new.table c.args.strengths.now c.certify.new.strengths c.args.sheet.now c.certify.new.sheet (Ok answer) room none certifies;
       trusted = trusted bs draw o some outcome c.certify.new.sheet (drop (length (certificate_by (candidates_in bs) (count unranked (ballots_of bs)))) c.args.sheet.now)
-          (certifies.sheet_after ∙ rw room) c.in-ok-certified.ensures.accepted;
+          (certifies.sheet_after ∙ rw room) c.in_ok-certified.ensures.accepted;
       clones = clones;
       one = one;
     }

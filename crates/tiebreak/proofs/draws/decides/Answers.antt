@@ -4,7 +4,7 @@ use Rattle.pairwise.specs.Counts.{over}
 use Rattle.tiebreak.specs.Draws.{drawn_in, drawn_at}
 use Rattle.tiebreak.proofs.Deciding.{drawn_ranks, absent_over, from_over, from_under, from_more, from_end}
 use Rattle.tiebreak.proofs.draws.decides.Goals as goal
-use Rattle.tiebreak.proofs.draws.decides.Goals.{in-Some+else-over+else-over-2, in-default}
+use Rattle.tiebreak.proofs.draws.decides.Goals.{in-Some+else-over+else-over-2, in_default}
 
 pub returns-then-over : goal.returns-then-over
 returns-then-over c =
@@ -40,9 +40,9 @@ loop-i-preserved c =
           more
           (ap (λ p. over unranked p x y) (sym e) ∙ (sym w.over.ensures ∙ w.if-over.false))
           (ap (λ p. over unranked p y x) (sym e) ∙ (sym w.over-in-Some.ensures ∙ w.if-over-2.false))
-      | in-default w ↦
+      | in_default w ↦
           let none : (a b : ℕ) → over unranked (f i) a b ≡ false =
           λ a b. ap (λ p. over unranked p a b) (sym (drawn_ranks bs draw (ballot_bytes c.args.header.candidates bs c.drawn_at.result) c.args.header.candidates c.drawn_at.result i refl c.requires.candidates c.drawn_at.ensures))
-          ∙ absent_over bs c.args.header.candidates c.args.header.ballots c.drawn_at.result a b c.requires.whole w.in-default.ensures in
+          ∙ absent_over bs c.args.header.candidates c.args.header.ballots c.drawn_at.result a b c.requires.whole w.in_default.ensures in
           more (none x y) (none y x)
     ]

@@ -5,8 +5,8 @@ use Rattle.tiebreak.specs.Draws.{drawn_ballots, decided}
 use Rattle.tiebreak.proofs.draws.number_before.Goals as goal
 use Rattle.tiebreak.proofs.draws.number_before.Goals.{then-decides, else-decides}
 
-pub overflow-add-number : goal.overflow-add-number
-overflow-add-number c =
+pub overflow_add-number : goal.overflow_add-number
+overflow_add-number c =
     omega (arith, c.args.header.few, c.loop-y.invariant, number_few (λ y. decided unranked (drawn_ballots c.args.bytes.now c.args.draw.now) y c.args.x) c.loop-y.y)
 
 pub loop-y-preserved : goal.loop-y-preserved

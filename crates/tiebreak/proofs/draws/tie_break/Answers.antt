@@ -16,9 +16,9 @@ loop-x-preserved c =
     let at : ℕ = c.loop-x.x in
     let f : ℕ → ℕ = λ x. number (λ y. decided unranked (drawn_ballots c.args.bytes.now c.args.draw.now) y x) c.args.header.candidates in
     let inside : at < most_candidates = omega (arith, c.args.header.few) in (
-      length-set keys at c.number-before.result ∙ c.loop-x.invariant.0,
-      (λ x l. ap (λ k. get_or (set keys at k) x 0) c.number-before.ensures ∙ fill_by_more f keys at 0 (omega (arith, c.loop-x.invariant.0)) c.loop-x.invariant.1 x l),
-      λ x l. get_or-set_other keys at x c.number-before.result 0 (λ e. omega arith) ∙ c.loop-x.invariant.2 x (omega arith),
+      length-set keys at c.number_before.result ∙ c.loop-x.invariant.0,
+      (λ x l. ap (λ k. get_or (set keys at k) x 0) c.number_before.ensures ∙ fill_by_more f keys at 0 (omega (arith, c.loop-x.invariant.0)) c.loop-x.invariant.1 x l),
+      λ x l. get_or-set_other keys at x c.number_before.result 0 (λ e. omega arith) ∙ c.loop-x.invariant.2 x (omega arith),
     )
 
 pub returns : goal.returns

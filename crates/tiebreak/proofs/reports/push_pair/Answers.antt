@@ -10,8 +10,8 @@ returns c =
     let s : ℕ → ℕ → ℕ = number_at c.args.v c.args.strengths.now in
     let x : ℕ = c.args.x in
     let y : ℕ = c.args.y in
-    let a : ahead_by s x y ≡ true = rw (sym c.number-at-there.ensures, sym c.number-at-back.ensures) (grind (arith, nat_tests)) in
-    rw (a, sym c.number-at-there.ensures, sym c.number-at-back.ensures)
-    (line_5 (string_bytes c.args.text.now) (string_bytes c.push-number.new.text) (string_bytes c.push-number-2.new.text) (string_bytes c.push-number-3.new.text) (string_bytes c.push-number-4.new.text) (string_bytes c.push-str.new.self)
-    (numbered (codes "ahead ") x) (numbered (codes " ") y) (numbered (codes " ") c.number-at-there.result) (numbered (codes " ") c.number-at-back.result) newline
-    c.in-ok-push-number.ensures c.in-ok-push-number-2.ensures c.in-ok-push-number-3.ensures c.in-ok-push-number-4.ensures c.in-ok-push-str.ensures.bytes)
+    let a : ahead_by s x y ≡ true = rw (sym c.number_at-there.ensures, sym c.number_at-back.ensures) (grind (arith, nat_tests)) in
+    rw (a, sym c.number_at-there.ensures, sym c.number_at-back.ensures)
+    (line_5 (string_bytes c.args.text.now) (string_bytes c.push_number.new.text) (string_bytes c.push_number-2.new.text) (string_bytes c.push_number-3.new.text) (string_bytes c.push_number-4.new.text) (string_bytes c.push_str.new.self)
+    (numbered (codes "ahead ") x) (numbered (codes " ") y) (numbered (codes " ") c.number_at-there.result) (numbered (codes " ") c.number_at-back.result) newline
+    c.in_ok-push_number.ensures c.in_ok-push_number-2.ensures c.in_ok-push_number-3.ensures c.in_ok-push_number-4.ensures c.in_ok-push_str.ensures.bytes)

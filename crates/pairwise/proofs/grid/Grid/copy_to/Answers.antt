@@ -8,16 +8,16 @@ use Rattle.pairwise.proofs.grid.Grid.copy_to.Goals as goal
 pub returns-then-out-v : goal.returns-then-out-v
 returns-then-out-v c = copied_short c.args.lent c.args.self.now.candidates (cell c.args.self.now.cells) c.args.out.now c.if-out-v.true
 
-pub slice-bounds-copy-from-slice-end : goal.slice-bounds-copy-from-slice-end
-slice-bounds-copy-from-slice-end c = omega (arith, row_ends c.loop-x.x c.args.self.now.candidates c.args.self.now.candidates (omega arith))
+pub slice_bounds-copy_from_slice-end : goal.slice_bounds-copy_from_slice-end
+slice_bounds-copy_from_slice-end c = omega (arith, row_ends c.loop-x.x c.args.self.now.candidates c.args.self.now.candidates (omega arith))
 
 pub loop-x-preserved : goal.loop-x-preserved
 loop-x-preserved c =
     let v : ℕ = c.args.self.now.candidates in
     let x : ℕ = c.loop-x.x in
-    row_more v x ((x * v + v) - x * v) (cell c.args.self.now.cells) c.args.out.now c.loop-x.out c.copy-from-slice.new.self
+    row_more v x ((x * v + v) - x * v) (cell c.args.self.now.cells) c.args.out.now c.loop-x.out c.copy_from_slice.new.self
     (omega arith)
-    (c.copy-from-slice.ensures.after ∙ (ap (λ n. take n (drop (x * most_candidates) c.args.self.now.cells)) (omega arith)
+    (c.copy_from_slice.ensures.after ∙ (ap (λ n. take n (drop (x * most_candidates) c.args.self.now.cells)) (omega arith)
     ∙ row_cells v x c.args.self.now.cells c.args.self.now.few (omega arith) (omega arith)))
     c.loop-x.invariant
 
