@@ -1,5 +1,5 @@
 // The full order of the candidates.
-ghost use Rattle.std.specs.Prelude.{◌≡◌, ◌<◌, false, length, replicate, IfSome, slice_index, slice_index_or};
+ghost use Rattle.std.specs.Prelude.{◌≡◌, ◌<◌, false, length, replicate, slice_index, slice_index_or};
 ghost use Rattle.ballots.specs.Format.{most_candidates};
 ghost use Rattle.paths.specs.Strengths.{strength_in};
 ghost use Rattle.best.specs.Compared.{before_by, earlier, next_by, OrderOf};
@@ -42,7 +42,7 @@ impl TieBreak {
     }
 
     fn earlier(&self, found: Option<usize>, x: usize) -> usize
-        ensures { result ≡ earlier (before_by self.now.keys) IfSome x }
+        ensures { result ≡ earlier (before_by self.now.keys) found x }
     {
         match found {
             None => x,

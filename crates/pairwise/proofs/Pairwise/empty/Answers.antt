@@ -7,7 +7,7 @@ use Rattle.pairwise.proofs.Preferences.{counted_none}
 use Rattle.pairwise.proofs.Pairwise.empty.Goals as goal
 
 pub invariant_of-result-2 : goal.invariant_of-result-2
-invariant_of-result-2 c = ((λ x y h. omega (arith, zeros cells (x * most_candidates + y))), tt)
+invariant_of-result-2 c = record { bounded = λ x y h. omega (arith, zeros cells (x * most_candidates + y)) }
 
 pub returns : goal.returns
 returns c =

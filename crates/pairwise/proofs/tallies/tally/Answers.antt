@@ -37,7 +37,7 @@ loop-i-preserved c =
     ]
 
 pub invariant_of-result-2 : goal.invariant_of-result-2
-invariant_of-result-2 c = (
-  (λ x y h. omega (arith, counted_le c.in_ok-header.header.candidates c.loop-i.i c.args.bytes.now c.loop-i.cells c.loop-i.invariant.1 x y h.0 h.1)),
-  tt,
-)
+invariant_of-result-2 c =
+    record {
+      bounded = λ x y h. omega (arith, counted_le c.in_ok-header.header.candidates c.loop-i.i c.args.bytes.now c.loop-i.cells c.loop-i.invariant.1 x y h.0 h.1);
+    }

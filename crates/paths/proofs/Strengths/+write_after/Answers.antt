@@ -12,7 +12,7 @@ write_after-next-requires t c =
     let p = parted c.args.self.now c.args.limit c.args.x c.args.y (omega arith) (omega arith) (omega arith)
     c.in-Some.middle c.in-Some.ensures in (
       omega (arith, c.decreases, p.low),
-      (omega arith, (omega (arith, p.low), (omega (arith, p.low), omega (arith, p.long)))),
+      ((omega arith, (omega (arith, p.low), omega (arith, p.low))), omega (arith, p.long)),
     )
 
 pub write_after-requires : goal.write_after-requires
@@ -20,7 +20,7 @@ write_after-requires t c =
     let p = parted c.args.self.now c.args.limit c.args.x c.args.y (omega arith) (omega arith) (omega arith)
     c.in-Some.middle c.in-Some.ensures in (
       omega (arith, c.decreases, p.low),
-      (omega (arith, p.low), (omega arith, (omega (arith, p.low), omega (arith, p.long, c.write_after-next.ensures.stop)))),
+      ((omega (arith, p.low), (omega arith, omega (arith, p.low))), omega (arith, p.long, c.write_after-next.ensures.stop)),
     )
 
 pub returns-in-None : goal.returns-in-None

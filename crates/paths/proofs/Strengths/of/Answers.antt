@@ -33,13 +33,12 @@ loop-middle-preserved c = next_phase c.loop-x.invariant (omega arith)
 pub invariant_of-result-2 : goal.invariant_of-result-2
 invariant_of-result-2 c =
     let t = c.args.pairwise.now in
-    let done : c.loop-middle.middle ≡ t.counts.candidates = omega arith in (
-      refl,
-      (
-        all_strengths t c.loop-middle.invariant done c.clear_diagonal.new.cells c.clear_diagonal.ensures,
-        (all_middles t c.loop-middle.invariant done, tt),
-      ),
-    )
+    let done : c.loop-middle.middle ≡ t.counts.candidates = omega arith in
+    record {
+      same = refl;
+      strong = all_strengths t c.loop-middle.invariant done c.clear_diagonal.new.cells c.clear_diagonal.ensures;
+      bettered = all_middles t c.loop-middle.invariant done;
+    }
 
 pub returns : goal.returns
 returns c =

@@ -1,8 +1,8 @@
 use Rattle.std.proofs.Common.{◌≡◌, ℕ, ◌+◌, true, false, List, sym, refl, ap, ◌∙◌, arith}
 use Rattle.ballots.specs.Format.{unranked, candidates_in, ballot_bytes, ranks_of}
 use Rattle.pairwise.specs.Counts.{over}
-use Rattle.tiebreak.specs.Draws.{drawn_in, drawn_at}
-use Rattle.tiebreak.proofs.Deciding.{drawn_ranks, absent_over, from_over, from_under, from_more, from_end}
+use Rattle.tiebreak.specs.Draws.{drawn_in, drawn_at, drawn_ballots, decided}
+use Rattle.tiebreak.proofs.Deciding.{decided_from, drawn_ranks, absent_over, from_over, from_under, from_more, from_end}
 use Rattle.tiebreak.proofs.draws.decides.Goals as goal
 use Rattle.tiebreak.proofs.draws.decides.Goals.{in-Some+else-over+else-over-2, in_default}
 
@@ -32,7 +32,7 @@ loop-i-preserved c =
     let y : ℕ = c.args.y in
     let i : ℕ = c.loop-i.i in
     let f : ℕ → List ℕ = λ i. ranks_of (ballot_bytes (candidates_in bs) bs (drawn_at draw i)) in
-    let more : over unranked (f i) x y ≡ false → over unranked (f i) y x ≡ false → goal.invariant·loop-i c.args.header bs draw x y 0 (drawn_in draw) (i + 1) =
+    let more : over unranked (f i) x y ≡ false → over unranked (f i) y x ≡ false → decided_from unranked (drawn_in draw) f x y (i + 1) ≡ decided unranked (drawn_ballots bs draw) x y =
     λ p q. sym (from_more unranked (drawn_in draw) f x y i c.loop-i-test.true p q) ∙ c.loop-i.invariant in
     elim c.match-ballot.branch [
       | in-Some+else-over+else-over-2 w ↦
