@@ -1,11 +1,11 @@
 -- Files and votes: what is written as a file is read from it, and what is read was so written.
-use Rattle.std.proofs.Common.{◌≡◌, ℕ, zero, suc, ◌+◌, ◌*◌, ◌/◌, ◌%◌, ◌<◌, ◌≤◌, cond, List, [], ◌∷◌, ◌++◌, map, length, get_or, take, drop, None, sym, refl, ap, ◌∙◌, add-mul, zero-add, arith, length-append, take-append-drop}
+use Rattle.std.proofs.Common.{◌≡◌, ℕ, zero, suc, ◌+◌, ◌*◌, ◌/◌, ◌%◌, ◌<◌, ◌≤◌, List, [], ◌∷◌, ◌++◌, map, length, get_or, take, drop, None, sym, ap, ◌∙◌, add-mul, zero-add, arith, length-append, take-append-drop}
 use Rattle.std.specs.List.{range_with_len, flat_map, AllByRecursion as All}
 use Rattle.std.proofs.lemmas.List.FromFn.{fill_by_all, length-map-range_with_len, get_or-map-range_with_len}
-use Rattle.std.proofs.ByRecursion.{All-get_or, All-from_get_or}
+use Rattle.std.proofs.ByRecursion.{All-from_get_or}
 use Rattle.std.proofs.lemmas.List.{take_at, drop_at, drop-drop, drop_all, length-map, get_or-map, length-take, length-drop}
 use Rattle.std.proofs.lemmas.Bool.Decides.{nat_tests}
-use Rattle.ballots.specs.Format.{most_candidates, header_length, candidates_in, ballots_in, whole_length, ballot_bytes, ranks_of, ballots_of, file_of}
+use Rattle.ballots.specs.Format.{most_candidates, header_length, candidates_in, ballots_in, whole_length, ballot_bytes, ranks_of, file_of}
 use Rattle.ballots.specs.Laws.{Vote, VotesAccepted, OnlyVotesAccepted}
 use Rattle.ballots.specs.Refusals.{refusal}
 use Rattle.ballots.proofs.Products.{row_ends}

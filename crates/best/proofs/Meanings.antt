@@ -1,13 +1,13 @@
 -- What comparing strengths means: ahead, unbeaten, among the best, next.
-use Rattle.std.proofs.Common.{◌≡◌, ℕ, zero, suc, ◌<◌, ◌≤◌, Bool, true, false, cond, not, ◌&&◌, eqb, ltb, ◌≢◌, Decides, sym, refl, ap, ◌∙◌, inl, inr, arith}
-use Rattle.std.proofs.lemmas.Bool.{cases_eq, cases_lt, cases_Bool, and_parts, and_from, ltb-true, lt-ltb}
+use Rattle.std.proofs.Common.{◌≡◌, ℕ, ◌<◌, Bool, true, not, ◌&&◌, ltb, ◌≢◌, Decides, sym, refl, arith}
+use Rattle.std.proofs.lemmas.Bool.{and_parts, and_from, ltb-true, lt-ltb}
 use Rattle.std.proofs.lemmas.Bool.Decides.{nat_tests, Decides-below_and, Decides-not, Decides-and, Decides-like}
-use Rattle.ballots.specs.Sets.{holds, every}
+use Rattle.ballots.specs.Sets.{every}
 use Rattle.ballots.proofs.Bits.{holds_set_of, set_of_lt}
 use Rattle.ballots.proofs.Everybody.{every_same}
-use Rattle.paths.specs.Paths.{below, Within, via, pair, strength}
+use Rattle.paths.specs.Paths.{below, via, strength}
 use Rattle.paths.proofs.Walks.{in_below, below_in, starts, ends}
-use Rattle.best.specs.Best.{Ahead, Best}
+use Rattle.best.specs.Best.{Ahead}
 use Rattle.best.specs.Orders.{Unbeaten, Next}
 use Rattle.best.specs.Compared.{ahead_by, unbeaten_by, best_by, BestSet}
 use Rattle.best.proofs.Compare.{ahead_strength, strength_ahead, best_unbeaten}

@@ -1,10 +1,10 @@
 -- The full order: there is one, its first is among the best, and whoever is ahead stands before.
-use Rattle.std.proofs.Common.{◌≡◌, ℕ, zero, suc, ◌<◌, Bool, true, false, not, ◌&&◌, eqb, ◌≢◌, List, [], ◌∷◌, length, get_or, sym, refl, ◌∙◌, inl, inr, arith}
+use Rattle.std.proofs.Common.{◌≡◌, ℕ, zero, suc, ◌<◌, Bool, true, List, [], ◌∷◌, length, get_or, sym, refl, ◌∙◌, inl, inr, arith}
 use Rattle.std.proofs.lemmas.Bool.{cases_eq, and_parts}
 use Rattle.paths.specs.Paths.{below}
 use Rattle.paths.proofs.Walks.{below_in, starts}
-use Rattle.best.specs.Best.{Ahead, Best}
-use Rattle.best.specs.Orders.{Unbeaten, Next, without, FullOrder, IsTieBreak, OneOrder, FirstIsBest, AheadStandsBefore}
+use Rattle.best.specs.Best.{Ahead}
+use Rattle.best.specs.Orders.{Next, without, FullOrder, IsTieBreak, OneOrder, FirstIsBest, AheadStandsBefore}
 use Rattle.best.proofs.Compare.{best_unbeaten}
 
 module _ (ahead : ℕ → ℕ → Type 0) (before : ℕ → ℕ → Bool) where

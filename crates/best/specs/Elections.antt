@@ -1,5 +1,5 @@
 -- The laws of the method for lists of ballots: the candidates below n stand, and one that a ballot does not list has the rank last. Assumes nothing.
-use Rattle.std.specs.Prelude.{◌≡◌, ℕ, ◌<◌, Bool, true, false, ◌≢◌, List, [], length, set, slice_index_or, slice_set}
+use Rattle.std.specs.Prelude.{◌≡◌, ℕ, ◌<◌, Bool, true, false, ◌≢◌, List, [], length, slice_index_or, slice_set}
 use Rattle.pairwise.specs.Counts.{over, count, win}
 use Rattle.paths.specs.Paths.{below, Within}
 use Rattle.best.specs.Best.{Ahead, Best, OnlyBest}

@@ -1,5 +1,5 @@
 -- The full order of the candidates, made from the front, over any relation ahead and any tie-break order. Assumes nothing.
-use Rattle.std.specs.Prelude.{◌≡◌, ℕ, ◌<◌, Bool, true, false, not, ◌&&◌, ◌≢◌, ◌⊎◌, List, [], ◌∷◌, length, ◌==◌, slice_index}
+use Rattle.std.specs.Prelude.{◌≡◌, ℕ, ◌<◌, Bool, true, not, ◌&&◌, ◌≢◌, ◌⊎◌, List, [], ◌∷◌, length, ◌==◌, slice_index}
 use Rattle.paths.specs.Paths.{below}
 use Rattle.best.specs.Best.{Ahead, Best}
 

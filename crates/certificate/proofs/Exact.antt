@@ -10,7 +10,7 @@ use Rattle.ballots.specs.Refusals.{refusal}
 use Rattle.ballots.proofs.Files.{accepted}
 use Rattle.pairwise.specs.declared.Pairwise.{Pairwise}
 use Rattle.pairwise.specs.Counts.{over, count, win_by, win}
-use Rattle.pairwise.specs.Grids.{within, entry}
+use Rattle.pairwise.specs.Grids.{entry}
 use Rattle.pairwise.specs.Tables.{PairwiseOf}
 use Rattle.paths.specs.Paths.{Strongest}
 use Rattle.paths.specs.Rows.{weakest}

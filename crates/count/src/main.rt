@@ -5,6 +5,7 @@ use anyhow::anyhow;
 use ballots::Refusal;
 use certificate::LONGEST;
 use pairwise::CELLS;
+use std::process::ExitCode;
 use std::rt::Files;
 use std::{env, fs};
 use tiebreak::{count, report};
@@ -88,7 +89,7 @@ fn usage(rt: &impl Eprint) -> anyhow::Result<()> {
     Err(anyhow!("usage"))
 }
 
-fn main(rt: HostRuntime) -> anyhow::Result<()> {
+fn count_files(rt: &HostRuntime) -> anyhow::Result<()> {
     let mut request = Request {
         ballots: None,
         draw: None,
@@ -96,7 +97,7 @@ fn main(rt: HostRuntime) -> anyhow::Result<()> {
         sheet_next: false,
         too_many: false,
     };
-    let mut args = env::args(&rt)?;
+    let mut args = env::args(rt)?;
     let _ = args.next();
     for word in args {
         request.take(word);
@@ -109,15 +110,23 @@ fn main(rt: HostRuntime) -> anyhow::Result<()> {
         too_many,
     } = request;
     let Some(ballots) = ballots else {
-        return usage(&rt);
+        return usage(rt);
     };
     if sheet_next || too_many {
-        return usage(&rt);
+        return usage(rt);
     }
-    let bytes = read(&rt, ballots.as_str())?;
+    let bytes = read(rt, ballots.as_str())?;
     let drawn = match draw {
         None => Vec::new(rt.alloc()),
-        Some(path) => read(&rt, path.as_str())?,
+        Some(path) => read(rt, path.as_str())?,
     };
-    run(&rt, &bytes, &drawn, sheet)
+    run(rt, &bytes, &drawn, sheet)
+}
+
+// What failed has been said before it comes here as an error.
+fn main(rt: HostRuntime) -> ExitCode {
+    match count_files(&rt) {
+        Ok(()) => ExitCode::SUCCESS,
+        Err(_) => ExitCode::FAILURE,
+    }
 }

@@ -1,4 +1,4 @@
-use Rattle.std.proofs.Common.{◌≡◌, ltb, ap}
+use Rattle.std.proofs.Common.{◌≡◌, ltb}
 use Rattle.pairwise.specs.Tables.{win_in}
 use Rattle.paths.specs.Strengths.{strength_in}
 use Rattle.best.specs.Compared.{ahead_by}

@@ -1,5 +1,4 @@
 use Rattle.std.proofs.Common.{◌≡◌, ℕ, Bool, true, false, not, ◌&&◌, get_or, sym, ◌∙◌, arith}
-use Rattle.std.proofs.lemmas.Bool.Decides.{nat_tests}
 use Rattle.paths.specs.Strengths.{strength_in}
 use Rattle.best.specs.Compared.{ahead_by}
 use Rattle.ballots.proofs.Everybody.{every_not, every_more}

@@ -1,5 +1,4 @@
-use Rattle.std.proofs.Common.{◌≡◌, ℕ, ◌-◌, List, length, take, Some, None, Ok, Result, sym, ap, ◌∙◌, subst, arith}
-use Rattle.ballots.specs.declared.refusal.Refusal.{Refusal}
+use Rattle.std.proofs.Common.{◌≡◌, ℕ, ◌-◌, List, take, Some, sym, ap, ◌∙◌, subst, arith}
 use Rattle.ballots.specs.Refusals.{refusal}
 use Rattle.ballots.specs.Sets.{holds}
 use Rattle.ballots.specs.Strikes.{struck, Strikes}

@@ -1,7 +1,7 @@
 use Rattle.std.proofs.Common.{◌≡◌, true, false, leb, sym, ap, ◌∙◌, arith}
 use Rattle.std.proofs.lemmas.Bool.Decides.{nat_tests}
 use Rattle.ballots.specs.Lending.{answered}
-use Rattle.tiebreak.specs.Draws.{drawn_at, drawn_before, misdrawn}
+use Rattle.tiebreak.specs.Draws.{drawn_at, drawn_before}
 use Rattle.tiebreak.proofs.Drawing.{misdrawn_more, draw_refused}
 use Rattle.tiebreak.proofs.draws.check_draw.Goals as goal
 

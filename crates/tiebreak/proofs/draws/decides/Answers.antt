@@ -1,8 +1,8 @@
-use Rattle.std.proofs.Common.{◌≡◌, ℕ, ◌+◌, true, false, List, sym, refl, ap, ◌∙◌, arith}
+use Rattle.std.proofs.Common.{◌≡◌, ℕ, ◌+◌, false, List, sym, refl, ap, ◌∙◌}
 use Rattle.ballots.specs.Format.{unranked, candidates_in, ballot_bytes, ranks_of}
 use Rattle.pairwise.specs.Counts.{over}
 use Rattle.tiebreak.specs.Draws.{drawn_in, drawn_at, drawn_ballots, decided}
-use Rattle.tiebreak.proofs.Deciding.{decided_from, drawn_ranks, absent_over, from_over, from_under, from_more, from_end}
+use Rattle.tiebreak.proofs.Deciding.{decided_from, drawn_ranks, absent_over, from_over, from_under, from_more}
 use Rattle.tiebreak.proofs.draws.decides.Goals as goal
 use Rattle.tiebreak.proofs.draws.decides.Goals.{in-Some+else-over+else-over-2, in_default}
 

@@ -1,4 +1,4 @@
-use Rattle.std.proofs.Common.{◌≡◌, ℕ, Bool, true, false, sym, ◌∙◌, arith}
+use Rattle.std.proofs.Common.{ℕ, Bool, sym, ◌∙◌, arith}
 use Rattle.ballots.specs.Format.{unranked}
 use Rattle.ballots.proofs.Everybody.{number_few, number_takes, number_passes}
 use Rattle.tiebreak.specs.Draws.{drawn_ballots, decided}

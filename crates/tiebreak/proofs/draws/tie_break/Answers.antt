@@ -1,4 +1,4 @@
-use Rattle.std.proofs.Common.{◌≡◌, ℕ, ◌<◌, ◌≤◌, Bool, get_or, set, sym, refl, ap, ◌∙◌, arith, length-set, get_or-set_other}
+use Rattle.std.proofs.Common.{◌≡◌, ℕ, ◌<◌, Bool, get_or, set, refl, ap, ◌∙◌, arith, length-set, get_or-set_other}
 use Rattle.std.proofs.lemmas.List.Edits.{fill_by_more}
 use Rattle.ballots.specs.Format.{most_candidates, unranked, candidates_in}
 use Rattle.ballots.specs.Sets.{number}

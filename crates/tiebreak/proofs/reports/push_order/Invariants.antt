@@ -1,7 +1,6 @@
-use Rattle.std.proofs.Common.{◌≡◌, cond, [], ◌++◌, get_or, string_bytes, codes}
+use Rattle.std.proofs.Common.{◌≡◌, ◌++◌, get_or, string_bytes, codes}
 use Rattle.std.specs.List.{range_with_len, flat_map}
-use Rattle.ballots.specs.Sets.{holds}
-use Rattle.tiebreak.specs.Reports.{numbered, number_at, ahead_line}
+use Rattle.tiebreak.specs.Reports.{numbered}
 use Rattle.tiebreak.proofs.reports.push_order.Given as goal
 
 abbrev pub invariant-loop-i : goal.invariant-loop-i

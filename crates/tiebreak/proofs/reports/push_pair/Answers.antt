@@ -1,4 +1,4 @@
-use Rattle.std.proofs.Common.{◌≡◌, ℕ, true, false, string_bytes, codes, sym, ◌∙◌, arith}
+use Rattle.std.proofs.Common.{◌≡◌, ℕ, true, string_bytes, codes, sym, arith}
 use Rattle.std.proofs.lemmas.Bool.Decides.{nat_tests}
 use Rattle.best.specs.Compared.{ahead_by}
 use Rattle.tiebreak.specs.Reports.{numbered, newline, number_at}

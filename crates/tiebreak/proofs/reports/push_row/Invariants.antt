@@ -1,7 +1,6 @@
-use Rattle.std.proofs.Common.{◌≡◌, cond, [], ◌++◌, get_or, string_bytes, codes}
+use Rattle.std.proofs.Common.{◌≡◌, ◌++◌, string_bytes}
 use Rattle.std.specs.List.{range_with_len, flat_map}
-use Rattle.ballots.specs.Sets.{holds}
-use Rattle.tiebreak.specs.Reports.{numbered, number_at, ahead_line}
+use Rattle.tiebreak.specs.Reports.{number_at, ahead_line}
 use Rattle.tiebreak.proofs.reports.push_row.Given as goal
 
 abbrev pub invariant-loop-y : goal.invariant-loop-y

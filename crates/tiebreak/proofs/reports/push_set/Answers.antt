@@ -1,4 +1,4 @@
-use Rattle.std.proofs.Common.{◌≡◌, ℕ, true, false, cond, List, [], ◌++◌, string_bytes, codes, sym, ap, ◌∙◌}
+use Rattle.std.proofs.Common.{◌≡◌, ℕ, true, false, cond, List, [], string_bytes, codes, sym, ap, ◌∙◌}
 use Rattle.ballots.specs.Sets.{holds}
 use Rattle.tiebreak.specs.Reports.{numbered}
 use Rattle.tiebreak.proofs.Texts.{piece_more, piece_none}

@@ -1,7 +1,7 @@
-use Rattle.std.proofs.Common.{◌≡◌, cond, [], ◌++◌, get_or, string_bytes, codes}
+use Rattle.std.proofs.Common.{◌≡◌, cond, [], ◌++◌, string_bytes, codes}
 use Rattle.std.specs.List.{range_with_len, flat_map}
 use Rattle.ballots.specs.Sets.{holds}
-use Rattle.tiebreak.specs.Reports.{numbered, number_at, ahead_line}
+use Rattle.tiebreak.specs.Reports.{numbered}
 use Rattle.tiebreak.proofs.reports.push_set.Given as goal
 
 abbrev pub invariant-loop-x : goal.invariant-loop-x

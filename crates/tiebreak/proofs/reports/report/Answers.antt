@@ -1,4 +1,4 @@
-use Rattle.std.proofs.Common.{ℕ, List, get_or, string_bytes, codes}
+use Rattle.std.proofs.Common.{ℕ, get_or, string_bytes, codes}
 use Rattle.std.specs.List.{range_with_len, flat_map}
 use Rattle.ballots.specs.Sets.{holds}
 use Rattle.tiebreak.specs.Reports.{numbered, newline, listed, number_at, ahead_lines}

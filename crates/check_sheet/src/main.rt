@@ -3,6 +3,7 @@
 
 use anyhow::anyhow;
 use certificate::check;
+use std::process::ExitCode;
 use std::rt::Files;
 use std::{env, fs};
 
@@ -16,15 +17,15 @@ fn read(rt: &(impl Files + Eprint + AllocGlobal), path: &str) -> anyhow::Result<
     }
 }
 
-fn main(rt: HostRuntime) -> anyhow::Result<()> {
-    let mut args = env::args(&rt)?;
+fn check_files(rt: &HostRuntime) -> anyhow::Result<()> {
+    let mut args = env::args(rt)?;
     let _ = args.next();
     let (Some(ballots), Some(sheet), None) = (args.next(), args.next(), args.next()) else {
         eprintln!(rt; "usage: check BALLOTS SHEET")?;
         return Err(anyhow!("usage"));
     };
-    let bytes = read(&rt, ballots.as_str())?;
-    let sheet = read(&rt, sheet.as_str())?;
+    let bytes = read(rt, ballots.as_str())?;
+    let sheet = read(rt, sheet.as_str())?;
     match check(&bytes, &sheet) {
         Ok(()) => {
             println!(rt; "accepted")?;
@@ -34,5 +35,13 @@ fn main(rt: HostRuntime) -> anyhow::Result<()> {
             println!(rt; "{refusal}")?;
             Err(anyhow!("refused"))
         }
+    }
+}
+
+// What failed has been said before it comes here as an error.
+fn main(rt: HostRuntime) -> ExitCode {
+    match check_files(&rt) {
+        Ok(()) => ExitCode::SUCCESS,
+        Err(_) => ExitCode::FAILURE,
     }
 }
