@@ -1,6 +1,6 @@
 -- Files and votes: what is written as a file is read from it, and what is read was so written.
 use Rattle.std.proofs.Common.{◌≡◌, ℕ, zero, suc, ◌+◌, ◌*◌, ◌/◌, ◌%◌, ◌<◌, ◌≤◌, List, [], ◌∷◌, ◌++◌, map, length, get_or, take, drop, None, sym, ap, ◌∙◌, add-mul, zero-add, arith, length-append, take-append-drop}
-use Rattle.std.specs.List.{range_with_len, flat_map, AllByRecursion as All}
+use Rattle.std.specs.List.{range_with_len, flat_map, AllByRecursion}
 use Rattle.std.proofs.lemmas.List.FromFn.{fill_by_all, length-map-range_with_len, get_or-map-range_with_len}
 use Rattle.std.proofs.ByRecursion.{All-from_get_or}
 use Rattle.std.proofs.lemmas.List.{take_at, drop_at, drop-drop, drop_all, length-map, get_or-map, length-take, length-drop}
@@ -11,13 +11,13 @@ use Rattle.ballots.specs.Refusals.{refusal}
 use Rattle.ballots.proofs.Products.{row_ends}
 
 -- rows of one width, joined
-length_joined : (v : ℕ) (ps : List (List ℕ)) → All (λ p. length p ≡ v) ps → length (flat_map (λ p. p) ps) ≡ length ps * v
+length_joined : (v : ℕ) (ps : List (List ℕ)) → AllByRecursion (λ p. length p ≡ v) ps → length (flat_map (λ p. p) ps) ≡ length ps * v
 length_joined v [] h = omega arith
 length_joined v (p ∷ ps) h =
     length-append p (flat_map (λ p. p) ps) ∙ omega (arith, h.0, length_joined v ps h.1, add-mul (length ps) 1 v)
 
 -- row i is found i widths in
-row_at : (v i : ℕ) (ps : List (List ℕ)) → All (λ p. length p ≡ v) ps → i < length ps → take v (drop (i * v) (flat_map (λ p. p) ps)) ≡ get_or ps i []
+row_at : (v i : ℕ) (ps : List (List ℕ)) → AllByRecursion (λ p. length p ≡ v) ps → i < length ps → take v (drop (i * v) (flat_map (λ p. p) ps)) ≡ get_or ps i []
 row_at v i [] h l = absurd (let f : ⊥ = omega arith in f)
 row_at v zero (p ∷ ps) h l =
     let z : 0 * v ≡ 0 = omega arith in rw z (take_at p (flat_map (λ p. p) ps) v h.0)

@@ -1,6 +1,6 @@
 -- Which files are accepted, and what a struck file keeps. Each is a statement, a type whose proof is owed. Assumes nothing.
 use Rattle.std.specs.Prelude.{◌≡◌, ℕ, ◌<◌, ◌≤◌, Bool, true, List, [], map, length, None, slice_index_or}
-use Rattle.std.specs.List.{AllByRecursion as All}
+use Rattle.std.specs.List.{AllByRecursion}
 use Rattle.ballots.specs.Format.{most_candidates, unranked, candidates_in, ballots_in, ranks_of, ballots_of, file_of}
 use Rattle.ballots.specs.Refusals.{refusal}
 use Rattle.ballots.specs.Strikes.{kept, renumbered, struck}
@@ -10,7 +10,7 @@ pub record Vote (v : ℕ) (ps : List (List ℕ)) : Type 0 where
   pub some : 1 ≤ v
   pub few : v ≤ most_candidates
   pub counted : length ps < 65536
-  pub each : All (λ p. length p ≡ v) ps
+  pub each : AllByRecursion (λ p. length p ≡ v) ps
 
 -- the file of a vote is accepted, and its ballots are those of the vote
 abbrev pub VotesAccepted : Type 0
@@ -20,7 +20,7 @@ VotesAccepted =
 -- and nothing else is: bytes that are accepted are the file of a vote
 abbrev pub OnlyVotesAccepted : Type 0
 OnlyVotesAccepted =
-    (bs : List ℕ) → All (λ b. b < 256) bs → refusal bs ≡ None →
+    (bs : List ℕ) → AllByRecursion (λ b. b < 256) bs → refusal bs ≡ None →
     (ps : List (List ℕ)) × Vote (candidates_in bs) ps × (bs ≡ file_of (candidates_in bs) ps)
 
 -- the struck file is accepted, has as many candidates as stay, and has as many ballots as the file itself;

@@ -1,6 +1,6 @@
 -- The worked counts, by one test that is computed over the whole table.
 use Rattle.std.proofs.Common.{◌≡◌, ℕ, ◌<◌, Bool, true, ◌&&◌, eqb, ltb, List, [], ◌∷◌, get_or, sym, refl, inl, inr, arith}
-use Rattle.std.specs.List.{AllByRecursion as All}
+use Rattle.std.specs.List.{AllByRecursion}
 use Rattle.std.proofs.lemmas.Bool.{false≢true, cases_lt, and_parts, or_cases, eqb-true, ltb-true}
 use Rattle.ballots.specs.Format.{unranked}
 use Rattle.ballots.specs.Sets.{set_of, every}
@@ -64,7 +64,7 @@ agrees_right c h =
       ];
     }
 
-all_right : (cs : List WorkedCount) → all_agree cs ≡ true → All Right cs
+all_right : (cs : List WorkedCount) → all_agree cs ≡ true → AllByRecursion Right cs
 all_right [] h = tt
 all_right (c ∷ cs) h = let p = and_parts _ _ h in (agrees_right c p.0, all_right cs p.1)
 

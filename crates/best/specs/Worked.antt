@@ -1,6 +1,6 @@
 -- Worked counts: small elections with their best and their strengths, as one works them out by hand. Assumes nothing.
 use Rattle.std.specs.Prelude.{ℕ, ◌<◌, Bool, false, ◌||◌, ◌≢◌, List, [], ◌∷◌, ◌++◌, replicate, Decides, ◌==◌, slice_index, slice_index_or}
-use Rattle.std.specs.List.{AllByRecursion as All}
+use Rattle.std.specs.List.{AllByRecursion}
 use Rattle.ballots.specs.Format.{unranked}
 use Rattle.pairwise.specs.Counts.{win}
 use Rattle.paths.specs.Paths.{below, Strongest}
@@ -68,4 +68,4 @@ pub record Right (c : WorkedCount) : Type 0 where
 
 -- every worked count is right
 abbrev pub WorkedCounts : Type 0
-WorkedCounts = All Right worked
+WorkedCounts = AllByRecursion Right worked

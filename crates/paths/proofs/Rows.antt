@@ -1,6 +1,6 @@
 -- Why the row by the candidates in the middle is a strongest path, with no candidate twice.
 use Rattle.std.proofs.Common.{◌≡◌, ℕ, zero, suc, ◌<◌, ◌≤◌, min, Bool, true, ◌⊎◌, List, [], ◌∷◌, ◌++◌, sym, refl, ap, ◌∙◌, inl, inr, arith}
-use Rattle.std.specs.List.{AllByRecursion as All}
+use Rattle.std.specs.List.{AllByRecursion}
 use Rattle.std.proofs.ByRecursion.{All-append, All-weaker}
 use Rattle.std.proofs.lemmas.Bool.{cases_lt, lt-ltb, le-ltb}
 use Rattle.paths.specs.Paths.{via}
@@ -118,7 +118,7 @@ module _ (w : ℕ → ℕ → ℕ) (here : ℕ → Bool) where
     from = omega (arith, i.from, via_more w here k z y);
   })
 
-  path_on : (m k x y : ℕ) → m ≤ via w here k x y → All (On m k x y) (path w here k x y)
+  path_on : (m k x y : ℕ) → m ≤ via w here k x y → AllByRecursion (On m k x y) (path w here k x y)
   unfolding path via
   path_on m zero x y h = (inl refl, tt)
   path_on m (suc k) x y h = elim (betters_or_keeps k x y) [
@@ -135,7 +135,7 @@ module _ (w : ℕ → ℕ → ℕ) (here : ℕ → Bool) where
   -- the two parts of a bettered row have no candidate in common: over it there would be a path that does not need k
   parts_apart :
       (k x y : ℕ) → (x ≡ y → ⊥) → Betters k x y →
-      All (λ z. All (λ u. u ≡ z → ⊥) (path w here k k y)) (x ∷ path w here k x k)
+      AllByRecursion (λ z. AllByRecursion (λ u. u ≡ z → ⊥) (path w here k k y)) (x ∷ path w here k x k)
   parts_apart k x y ne o =
       let m : ℕ = via w here (suc k) x y in
       let p = path_on m k x k (omega (arith, o.is)) in
@@ -144,7 +144,7 @@ module _ (w : ℕ → ℕ → ℕ) (here : ℕ → Bool) where
           | inl f ↦ ne (sym e ∙ f)
           | inr j ↦ let l : m ≤ via w here k x y = rw e at j.from in omega (arith, o.less)
         ]) (path w here k k y) q,
-        All-weaker (On m k x k) (λ z. All (λ u. u ≡ z → ⊥) (path w here k k y)) (λ z i.
+        All-weaker (On m k x k) (λ z. AllByRecursion (λ u. u ≡ z → ⊥) (path w here k k y)) (λ z i.
             All-weaker (On m k k y) (λ u. u ≡ z → ⊥) (λ u j e. elim i [
               | inl g ↦ elim j [
                 | inl f ↦ o.last (sym g ∙ (sym e ∙ f))

@@ -1,6 +1,6 @@
 -- Paths shown as rows of candidates, first to last, and the row that shows a strongest one. Assumes nothing.
 use Rattle.std.specs.Prelude.{◌≡◌, ℕ, zero, suc, ◌<◌, ◌≤◌, min, Bool, true, cond, List, [], ◌∷◌, ◌++◌, length, Some, None, Option, ◌≢◌, nat_lt}
-use Rattle.std.specs.List.{AllByRecursion as All}
+use Rattle.std.specs.List.{AllByRecursion}
 use Rattle.ballots.specs.Sets.{holds}
 use Rattle.paths.specs.Paths.{below, Path, via, strength}
 
@@ -27,7 +27,7 @@ pub record Shows (w : ℕ → ℕ → ℕ) (here : ℕ → Bool) (x y s : ℕ) (
 -- no candidate comes twice
 abbrev pub Apart : List ℕ → Type 0
 Apart [] = Unit {0}
-Apart (x ∷ xs) = All (λ z. z ≢ x) xs × Apart xs
+Apart (x ∷ xs) = AllByRecursion (λ z. z ≢ x) xs × Apart xs
 
 -- the row is a path from x to y of strength s with no candidate twice, so with at most n, and no path is stronger
 pub record ShowsStrongest (w : ℕ → ℕ → ℕ) (here : ℕ → Bool) (n x y s : ℕ) (row : List ℕ) : Type 0 where
