@@ -38,7 +38,7 @@ fn check_files(rt: &HostRuntime) -> anyhow::Result<()> {
     }
 }
 
-// What failed has been said before it comes here as an error.
+// What users can mend has been said before it comes here as an error.
 fn main(rt: HostRuntime) -> ExitCode {
     match check_files(&rt) {
         Ok(()) => ExitCode::SUCCESS,

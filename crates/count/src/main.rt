@@ -123,7 +123,7 @@ fn count_files(rt: &HostRuntime) -> anyhow::Result<()> {
     run(rt, &bytes, &drawn, sheet)
 }
 
-// What failed has been said before it comes here as an error.
+// What users can mend has been said before it comes here as an error.
 fn main(rt: HostRuntime) -> ExitCode {
     match count_files(&rt) {
         Ok(()) => ExitCode::SUCCESS,
