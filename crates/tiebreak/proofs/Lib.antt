@@ -1,3 +1,4 @@
 pub mod Drawing
 pub mod Deciding
 pub mod Counting
+pub mod Made
