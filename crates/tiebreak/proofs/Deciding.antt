@@ -5,12 +5,12 @@ use Rattle.std.proofs.lemmas.Nat.{mul-le}
 use Rattle.std.proofs.lemmas.List.Elements.{filter-append}
 use Rattle.std.proofs.lemmas.List.{length-append, length-take, length-drop, drop_all, drop_more}
 use Rattle.std.proofs.lemmas.List.FromFn.{length-map-range_with_len, get_or-map-range_with_len}
-use Rattle.std.proofs.lemmas.Bool.{cases_eq, cases_lt, cases_Bool}
+use Rattle.std.proofs.lemmas.Bool.{cases_eq, cases_Bool}
 use Rattle.std.proofs.lemmas.Bool.Decides.{nat_tests}
-use Rattle.ballots.specs.Format.{header_length, unranked, candidates_in, ballot_bytes, ranks_of}
+use Rattle.ballots.specs.Format.{header_length, unranked, candidates_in, ballots_in, ballot_bytes, ranks_of}
 use Rattle.ballots.specs.Sets.{number}
 use Rattle.ballots.proofs.Everybody.{number_lt}
-use Rattle.ballots.proofs.Products.{row_ends, counting_more}
+use Rattle.ballots.proofs.Products.{counting_more}
 use Rattle.pairwise.specs.Counts.{over}
 use Rattle.best.specs.Orders.{IsTieBreak}
 use Rattle.best.specs.Compared.{before_by}
@@ -70,22 +70,21 @@ blank_over [] x y h = refl
 blank_over (r ∷ p) x y h = absurd (let z : ⊥ = omega arith in z)
 
 -- nor does one that is not in the file
-pub absent_over : (bs : List ℕ) (v n k x y : ℕ) → length bs ≡ header_length + n * v → (n ≤ k) ⊎ (length bs < header_length + k * v + v) →
-    over unranked (ranks_of (ballot_bytes v bs k)) x y ≡ false
-absent_over bs v n k x y whole gone = elim (cases_lt k n) [
-  | inl l ↦ absurd (elim gone [ inl g ↦ omega arith | inr g ↦ omega (arith, row_ends k n v l) ])
-  | inr l ↦ blank_over (ballot_bytes v bs k) x y (simp (length-take, length-drop) (omega (arith, mul-le n v k v l (omega arith))))
-]
+pub absent_over : (bs : List ℕ) (k x y : ℕ) → length bs ≡ header_length + ballots_in bs * candidates_in bs → ballots_in bs ≤ k →
+    over unranked (ranks_of (ballot_bytes (candidates_in bs) bs k)) x y ≡ false
+absent_over bs k x y whole gone =
+    let v : ℕ = candidates_in bs in
+    blank_over (ballot_bytes v bs k) x y (simp (length-take, length-drop) (omega (arith, mul-le (ballots_in bs) v k v gone (omega arith))))
 
 -- the drawn ballot at place i, as its bytes p are found, decides before those behind it
-pub drawn_next : (bs draw p : List ℕ) (v k i x y : ℕ) → i < drawn_in draw → p ≡ ballot_bytes v bs k → v ≡ candidates_in bs → k ≡ drawn_at draw i →
+pub drawn_next : (bs draw p : List ℕ) (k i x y : ℕ) → i < drawn_in draw → p ≡ ballot_bytes (candidates_in bs) bs k → k ≡ drawn_at draw i →
     decided unranked (drop i (drawn_ballots bs draw)) x y
     ≡ (over unranked (ranks_of p) x y || (not (over unranked (ranks_of p) y x) && decided unranked (drop (i + 1) (drawn_ballots bs draw)) x y))
-drawn_next bs draw p v k i x y l ep ev ek =
+drawn_next bs draw p k i x y l ep ek =
     let f : ℕ → List ℕ = λ k. ranks_of (ballot_bytes (candidates_in bs) bs (drawn_at draw k)) in
     let some : i < length (map f (range_with_len 0 (drawn_in draw))) = omega (arith, length-map-range_with_len f 0 (drawn_in draw)) in
     let this : get_or (map f (range_with_len 0 (drawn_in draw))) i [] ≡ f i = get_or-map-range_with_len f 0 (drawn_in draw) i i [] l (omega arith) in
-    rw (drop_more (map f (range_with_len 0 (drawn_in draw))) i [] some, this, ep, ev, ek) refl
+    rw (drop_more (map f (range_with_len 0 (drawn_in draw))) i [] some, this, ep, ek) refl
 
 -- and where none is left, by number
 pub drawn_last : (bs draw : List ℕ) (x y i : ℕ) → drawn_in draw ≤ i → decided unranked (drop i (drawn_ballots bs draw)) x y ≡ ltb x y

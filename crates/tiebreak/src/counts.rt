@@ -26,8 +26,8 @@ pub fn count(
     ensures clones { CloneIndependent bytes.now (best_part result) }
     ensures one { IndependentByOne bytes.now (best_part result) }
 {
-    let header = ballots::read(bytes)?;
-    let draw = Draw::read(header, bytes, draw)?;
+    let file = ballots::read(bytes)?;
+    let draw = Draw::read(file, draw)?;
     let certified = certify(bytes, table, strengths, sheet)?;
     let pairwise = tally(bytes)?;
     let order = full_order(&Strengths::of(&pairwise), &draw.tie_break());

@@ -1,14 +1,12 @@
 // The draw: reading it, and the tie-break order that it makes.
-ghost use Rattle.std.specs.Prelude.{◌≡◌, ◌==◌, nat_lt, cond, Some, None};
+ghost use Rattle.std.specs.Prelude.{◌≡◌, ◌==◌, nat_lt, cond};
 ghost use Rattle.std.specs.List.{list_any};
 ghost use Rattle.std.specs.Int.{w16, from_le_bytes};
-ghost use Rattle.std.specs.Result.{MatchResult};
 ghost use Rattle.ballots.specs.Format.{unranked};
-ghost use Rattle.ballots.specs.Reading.{HeaderOf};
 ghost use Rattle.ballots.specs.Sets.{number};
-ghost use Rattle.tiebreak.specs.Draws.{draw_refusal, drawn_ballots, decided, TieBreakOf};
+ghost use Rattle.tiebreak.specs.Draws.{drawn_ballots, decided, DrawnFrom, TieBreakOf};
 
-use ballots::{Header, MOST_CANDIDATES, Refusal};
+use ballots::{BallotFile, Refusal};
 use best::TieBreak;
 use pairwise::over;
 use std::array;
@@ -19,10 +17,8 @@ const NUMBER_LENGTH: usize = 2;
 // Ballots of a file, as they are drawn.
 #[derive(Clone, Copy)]
 pub(crate) struct Draw<'a> {
-    header: Header,
-    ballots: &'a [u8],
+    file: BallotFile<'a>,
     bytes: &'a [u8],
-    ghost of: { HeaderOf ballots.now header },
 }
 
 // Whether the ballot is among those of these numbers.
@@ -36,13 +32,8 @@ fn drawn(numbers: &[[u8; NUMBER_LENGTH]], ballot: u16) -> bool
 
 impl<'a> Draw<'a> {
     // The draw from the ballots of a file, or why it is refused.
-    pub(crate) fn read(
-        header: Header,
-        ballots: &'a [u8],
-        bytes: &'a [u8],
-    ) -> Result<Draw<'a>, Refusal>
-        requires { HeaderOf ballots.now header }
-        ensures { MatchResult result (λ d. (draw_refusal header.ballots bytes.now ≡ None) × (d.header ≡ header) × (d.ballots ≡ ballots.entry) × (d.bytes ≡ bytes.entry)) (λ e. draw_refusal header.ballots bytes.now ≡ Some e) }
+    pub(crate) fn read(file: BallotFile<'a>, bytes: &'a [u8]) -> Result<Draw<'a>, Refusal>
+        ensures { DrawnFrom file.entry bytes.entry result }
     {
         let (numbers, rest) = bytes.as_chunks::<NUMBER_LENGTH>();
         if !rest.is_empty() {
@@ -50,25 +41,21 @@ impl<'a> Draw<'a> {
         }
         for (place, number) in numbers.iter().enumerate() {
             let ballot = u16::from_le_bytes(*number);
-            if ballot >= header.ballots || drawn(&numbers[..place], ballot) {
+            if ballot >= file.ballots || drawn(&numbers[..place], ballot) {
                 return Err(Refusal::Draw { place });
             }
         }
-        Ok(Draw {
-            header,
-            ballots,
-            bytes,
-        })
+        Ok(Draw { file, bytes })
     }
 
     // Whether x is before y: by the first drawn ballot that does not put them equal, and by number where none does.
     fn decides(&self, x: usize, y: usize) -> bool
-        ensures { result ≡ decided unranked (drawn_ballots self.now.ballots.now self.now.bytes.now) x y }
+        ensures { result ≡ decided unranked (drawn_ballots self.now.file.bytes.now self.now.bytes.now) x y }
     {
         let (numbers, _) = self.bytes.as_chunks::<NUMBER_LENGTH>();
         for number in numbers {
             let number = usize::from(u16::from_le_bytes(*number));
-            if let Some(ballot) = self.header.ballot(self.ballots, number) {
+            if let Some(ballot) = self.file.get(number) {
                 if over(ballot, x, y) {
                     return true;
                 }
@@ -82,9 +69,9 @@ impl<'a> Draw<'a> {
 
     // How many candidates are before x; 0 where x is no candidate.
     fn key(&self, x: usize) -> u8
-        ensures { result ≡ cond (nat_lt x self.now.header.candidates) (number (λ y. decided unranked (drawn_ballots self.now.ballots.now self.now.bytes.now) y x) self.now.header.candidates) 0 }
+        ensures { result ≡ cond (nat_lt x self.now.file.candidates) (number (λ y. decided unranked (drawn_ballots self.now.file.bytes.now self.now.bytes.now) y x) self.now.file.candidates) 0 }
     {
-        let candidates = self.header.candidates;
+        let candidates = self.file.candidates;
         if x >= candidates {
             return 0;
         }
@@ -93,7 +80,7 @@ impl<'a> Draw<'a> {
 
     // The tie-break order that the draw makes.
     pub(crate) fn tie_break(&self) -> TieBreak
-        ensures { TieBreakOf self.now.ballots.now self.now.bytes.now result }
+        ensures { TieBreakOf self.now.file.bytes.now self.now.bytes.now result }
     {
         TieBreak {
             keys: array::from_fn(|x| self.key(x)),

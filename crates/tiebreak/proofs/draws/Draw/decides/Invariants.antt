@@ -5,5 +5,5 @@ use Rattle.tiebreak.proofs.draws.Draw.decides.Given as goal
 
 abbrev pub invariant-loop-number : goal.invariant-loop-number
 invariant-loop-number l =
-    let ballots = drawn_ballots l.self.ballots.now l.self.bytes.now in
+    let ballots = drawn_ballots l.self.file.bytes.now l.self.bytes.now in
     decided unranked (drop l.number-index ballots) l.x l.y ≡ decided unranked ballots l.x l.y

@@ -8,8 +8,8 @@ use Rattle.tiebreak.proofs.draws.Draw.key.Goals as goal
 
 pub returns : goal.returns
 returns c =
-    let v : ℕ = c.args.self.now.header.candidates in
-    let before_x : ℕ → Bool = λ y. decided unranked (drawn_ballots c.args.self.now.ballots.now c.args.self.now.bytes.now) y c.args.x in
+    let v : ℕ = c.args.self.now.file.candidates in
+    let before_x : ℕ → Bool = λ y. decided unranked (drawn_ballots c.args.self.now.file.bytes.now c.args.self.now.bytes.now) y c.args.x in
     rw (lt-ltb c.args.x v (omega arith))
     (count_from_yields_List c.filter.result c.count.result c.count.ensures.ran
     (YieldsList-from_filter _ before_x (YieldsList-from_range 0 v v (cc) (omega arith)) c.filter.ensures.closure (λ x r q k. search (rules, tests)))

@@ -3,27 +3,27 @@ use Rattle.std.proofs.lemmas.Bool.Decides.{nat_tests}
 use Rattle.tiebreak.specs.Draws.{misdrawn}
 use Rattle.tiebreak.proofs.Drawing.{number_drawn, misdrawn_is, misdrawn_more, draw_refused}
 use Rattle.tiebreak.proofs.draws.Draw.read.Goals as goal
-use Rattle.tiebreak.proofs.draws.Draw.read.Goals.{then-ballot-header-via-then-ballot-header, then-ballot-header-via-else-ballot-header+then-drawn}
+use Rattle.tiebreak.proofs.draws.Draw.read.Goals.{then-ballot-file-via-then-ballot-file, then-ballot-file-via-else-ballot-file+then-drawn}
 
-pub returns-then-ballot-header : goal.returns-then-ballot-header
-returns-then-ballot-header c =
+pub returns-then-ballot-file : goal.returns-then-ballot-file
+returns-then-ballot-file c =
     let draw : List ℕ = c.args.bytes.now in
-    let n : ℕ = c.args.header.ballots in
+    let n : ℕ = c.args.file.ballots in
     let i : ℕ = c.loop-place.place in
     let pairs = c.as_chunks.result.0.now in
     let front = c.as_chunks.ensures.front in
     let is = misdrawn_is draw pairs front i c.loop-place-test.true n c.from_le_bytes-ballot.result (c.from_le_bytes-ballot.ensures ∙ number_drawn draw pairs front i c.loop-place-test.true _) in
     let even : length draw % 2 ≡ 0 = grind (arith, nat_tests, c.as_chunks.ensures.back_len, c.if-not-is_empty.ensures) in
-    let bad : misdrawn n draw i ≡ true = is ∙ elim c.then-ballot-header.branch [
-      | then-ballot-header-via-then-ballot-header w ↦ grind (arith, nat_tests)
-      | then-ballot-header-via-else-ballot-header+then-drawn w ↦ grind (arith, nat_tests)
+    let bad : misdrawn n draw i ≡ true = is ∙ elim c.then-ballot-file.branch [
+      | then-ballot-file-via-then-ballot-file w ↦ grind (arith, nat_tests)
+      | then-ballot-file-via-else-ballot-file+then-drawn w ↦ grind (arith, nat_tests)
     ] in
     draw_refused draw n i even (omega (arith, c.as_chunks.ensures.front_len)) c.loop-place.invariant bad
 
 pub loop-place-preserved : goal.loop-place-preserved
 loop-place-preserved c =
     let draw : List ℕ = c.args.bytes.now in
-    let n : ℕ = c.args.header.ballots in
+    let n : ℕ = c.args.file.ballots in
     let i : ℕ = c.loop-place.place in
     let pairs = c.as_chunks.result.0.now in
     let front = c.as_chunks.ensures.front in

@@ -10,11 +10,11 @@ use Rattle.tiebreak.proofs.draws.Draw.tie_break.Goals as goal
 
 pub returns : goal.returns
 returns c =
-    let bs : List ℕ = c.args.self.now.ballots.now in
+    let bs : List ℕ = c.args.self.now.file.bytes.now in
     let before : ℕ → ℕ → Bool = decided unranked (drawn_ballots bs c.args.self.now.bytes.now) in
-    let v : ℕ = c.args.self.now.header.candidates in
-    let e : v ≡ candidates_in bs = c.args.self.now.of.candidates in
-    let few : v ≤ most_candidates = c.args.self.now.header.few in
+    let v : ℕ = c.args.self.now.file.candidates in
+    let e : v ≡ candidates_in bs = c.args.self.now.file.said_candidates in
+    let few : v ≤ most_candidates = c.args.self.now.file.few in
     let key : ℕ → ℕ = λ x. cond (ltb x v) (number (λ y. before y x) v) 0 in
     let at : (x : ℕ) → x < most_candidates → get_or c.from_fn.result x 0 ≡ key x =
     λ x l. made_at c.from_fn.result key most_candidates x 0 c.from_fn.ensures.items (λ i r q k. search (rules, tests)) l in
