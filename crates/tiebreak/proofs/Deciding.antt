@@ -7,6 +7,7 @@ use Rattle.std.proofs.lemmas.List.{length-append, length-take, length-drop, drop
 use Rattle.std.proofs.lemmas.List.FromFn.{length-map-range_with_len, get_or-map-range_with_len}
 use Rattle.std.proofs.lemmas.Bool.{cases_eq, cases_Bool}
 use Rattle.std.proofs.lemmas.Bool.Decides.{nat_tests}
+use Rattle.std.proofs.lemmas.Grind.{common_steps}
 use Rattle.ballots.specs.Format.{header_length, unranked, candidates_in, ballots_in, ballot_bytes, ranks_of}
 use Rattle.ballots.specs.Sets.{number}
 use Rattle.ballots.proofs.Everybody.{number_lt}
@@ -14,6 +15,7 @@ use Rattle.ballots.proofs.Products.{counting_more}
 use Rattle.pairwise.specs.Counts.{over}
 use Rattle.best.specs.Orders.{IsTieBreak}
 use Rattle.best.specs.Compared.{before_by}
+use Rattle.tiebreak.proofs.Drawing.{pair_low, pair_high}
 use Rattle.tiebreak.specs.Draws.{drawn_in, drawn_at, drawn_ballots, decided, DecidedIsATieBreak}
 
 decided_total : (last : ℕ) (ps : List (List ℕ)) (x y : ℕ) → x ≢ y → (decided last ps x y ≡ true) ⊎ (decided last ps y x ≡ true)
@@ -76,21 +78,25 @@ absent_over bs k x y whole gone =
     let v : ℕ = candidates_in bs in
     blank_over (ballot_bytes v bs k) x y (simp (length-take, length-drop) (omega (arith, mul-le (ballots_in bs) v k v gone (omega arith))))
 
--- the drawn ballot at place i, as its bytes p are found, decides before those behind it
-pub drawn_next : (bs draw p : List ℕ) (k i x y : ℕ) → i < drawn_in draw → p ≡ ballot_bytes (candidates_in bs) bs k → k ≡ drawn_at draw i →
+-- the drawn ballot at place i decides before those behind it
+pub drawn_next : (bs draw : List ℕ) (x y i : ℕ) → i < drawn_in draw →
+    let p = ranks_of (ballot_bytes (candidates_in bs) bs (drawn_at draw i)) in
     decided unranked (drop i (drawn_ballots bs draw)) x y
-    ≡ (over unranked (ranks_of p) x y || (not (over unranked (ranks_of p) y x) && decided unranked (drop (i + 1) (drawn_ballots bs draw)) x y))
-drawn_next bs draw p k i x y l ep ek =
+    ≡ (over unranked p x y || (not (over unranked p y x) && decided unranked (drop (i + 1) (drawn_ballots bs draw)) x y))
+drawn_next bs draw x y i l =
     let f : ℕ → List ℕ = λ k. ranks_of (ballot_bytes (candidates_in bs) bs (drawn_at draw k)) in
     let some : i < length (map f (range_with_len 0 (drawn_in draw))) = omega (arith, length-map-range_with_len f 0 (drawn_in draw)) in
     let this : get_or (map f (range_with_len 0 (drawn_in draw))) i [] ≡ f i = get_or-map-range_with_len f 0 (drawn_in draw) i i [] l (omega arith) in
-    rw (drop_more (map f (range_with_len 0 (drawn_in draw))) i [] some, this, ep, ek) refl
+    rw (drop_more (map f (range_with_len 0 (drawn_in draw))) i [] some, this) refl
 
 -- and where none is left, by number
 pub drawn_last : (bs draw : List ℕ) (x y i : ℕ) → drawn_in draw ≤ i → decided unranked (drop i (drawn_ballots bs draw)) x y ≡ ltb x y
 drawn_last bs draw x y i l =
     let f : ℕ → List ℕ = λ k. ranks_of (ballot_bytes (candidates_in bs) bs (drawn_at draw k)) in
     rw (drop_all i (map f (range_with_len 0 (drawn_in draw))) (omega (arith, length-map-range_with_len f 0 (drawn_in draw))))
+
+-- how the drawn ballots decide, one after the other
+pub ruleset drawn_steps = (common_steps, pair_low, pair_high, drawn_next, drawn_last, absent_over)
 
 -- how many pass a test, as the candidates that are left by it
 pub number_left : (f : ℕ → Bool) (n : ℕ) → length (filter f (range_with_len 0 n)) ≡ number f n

@@ -23,24 +23,27 @@ length_pairs : (xs : List ℕ) (n : ℕ) → length (first_chunks 2 n xs) ≡ n
 length_pairs xs zero = refl
 length_pairs xs (suc n) = ap suc (length_pairs (drop 2 xs) n)
 
-module _ (draw : List ℕ) where
-  number_at : (n i : ℕ) (d : List ℕ) → i < n → from_le_bytes w16 (get_or (first_chunks 2 n draw) i d) ≡ drawn_at draw i
-  number_at n i d l = rw (pair_at draw n i d l) (grind (arith, common_steps))
+-- its two bytes
+pub pair_low : (draw : List ℕ) (n i : ℕ) (d : List ℕ) → i < n → get_or (get_or (first_chunks 2 n draw) i d) 0 0 ≡ get_or draw (2 * i) 0
+pair_low draw n i d l = rw (pair_at draw n i d l) (grind (arith, common_steps))
 
+pub pair_high : (draw : List ℕ) (n i : ℕ) (d : List ℕ) → i < n → get_or (get_or (first_chunks 2 n draw) i d) 1 0 ≡ get_or draw (2 * i + 1) 0
+pair_high draw n i d l = rw (pair_at draw n i d l) (grind (arith, common_steps))
+
+module _ (draw : List ℕ) where
   among : (k n i : ℕ) → i ≤ n → list_any (λ p. eqb (from_le_bytes w16 p) k) (take i (first_chunks 2 n draw)) ≡ drawn_before draw k i
   among k n zero l = refl
   among k n (suc i) l =
       let more = rw add-one at (list_any_more (λ p. eqb (from_le_bytes w16 p) k) (first_chunks 2 n draw) i [] (omega (arith, length_pairs draw n))) in
-      more ∙ rw (among k n i (omega arith), number_at n i [] (omega arith)) (grind (arith, nat_tests))
+      more ∙ rw (among k n i (omega arith), pair_low draw n i [] (omega arith), pair_high draw n i [] (omega arith)) (grind (arith, nat_tests))
 
-  module _ (pairs : List (List ℕ)) (are : pairs ≡ first_chunks 2 (drawn_in draw) draw) (i : ℕ) (l : i < length pairs) where
-    -- the number that a pair says
-    pub number_drawn : (d : List ℕ) → from_le_bytes w16 (get_or pairs i d) ≡ drawn_at draw i
-    number_drawn d = rw are (number_at (drawn_in draw) i d (omega (arith, ap length are, length_pairs draw (drawn_in draw))))
-
-    -- a ballot is misdrawn, as the pairs say it
-    pub misdrawn_is : (n k : ℕ) → k ≡ drawn_at draw i → misdrawn n draw i ≡ (leb n k || list_any (λ p. eqb (from_le_bytes w16 p) k) (take i pairs))
-    misdrawn_is n k e = rw (are, e, among (drawn_at draw i) (drawn_in draw) i (omega (arith, ap length are, length_pairs draw (drawn_in draw)))) refl
+  -- whether the ballot k at place i is misdrawn, as the pairs say it
+  pub misdrawn_is : (pairs : List (List ℕ)) (n i k : ℕ) → pairs ≡ first_chunks 2 (drawn_in draw) draw → i < length pairs → k ≡ from_le_bytes w16 (get_or pairs i []) →
+      misdrawn n draw i ≡ (leb n k || list_any (λ p. eqb (from_le_bytes w16 p) k) (take i pairs))
+  misdrawn_is pairs n i k are l e =
+      let l' : i < drawn_in draw = omega (arith, ap length are, length_pairs draw (drawn_in draw)) in
+      let drawn : k ≡ drawn_at draw i = e ∙ rw (are, pair_low draw (drawn_in draw) i [] l', pair_high draw (drawn_in draw) i [] l') (omega arith) in
+      rw (are, drawn, among (drawn_at draw i) (drawn_in draw) i (omega arith)) refl
 
   -- the first that is misdrawn, at the place i, is the first of all
   misdrawn_first : (n i m : ℕ) → i < m → first_misdrawn n draw i ≡ None → misdrawn n draw i ≡ true → first_misdrawn n draw m ≡ Some (Draw i)

@@ -49,6 +49,7 @@ impl<'a> Draw<'a> {
     }
 
     // Whether x is before y: by the first drawn ballot that does not put them equal, and by number where none does.
+    #[tactic(auto, using(crate::proofs::Deciding::drawn_steps))]
     fn decides(&self, x: usize, y: usize) -> bool
         ensures { result ≡ decided unranked (drawn_ballots self.now.file.bytes.now self.now.bytes.now) x y }
     {
