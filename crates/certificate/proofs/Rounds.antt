@@ -9,11 +9,14 @@ use Rattle.certificate.specs.Layout.{two_bytes, four_bytes, Claims, entry_bytes,
 use Rattle.certificate.specs.Reading.{two_at, four_at, count_at, cut_place, place, best_place}
 use Rattle.certificate.specs.Judge.{reaches, stands}
 use Rattle.certificate.specs.Truth.{OfPairs}
-use Rattle.certificate.proofs.Arrivals.{counting_first}
 use Rattle.certificate.proofs.Accepted.{Met, met_more}
 use Rattle.certificate.proofs.Digits.{two_back, four_back}
 use Rattle.certificate.proofs.Fronts.{table_length}
 use Rattle.certificate.proofs.Places.{place_first, place_same, place_next, place_row}
+
+-- the first of n - i numbers from i on
+counting_first : (n i : ℕ) → i < n → range_with_len i (n - i) ≡ i ∷ range_with_len (i + 1) (n - (i + 1))
+counting_first n i h = let e : n - i ≡ suc (n - (i + 1)) = omega arith in rw e
 
 module _ (sheet : List ℕ) where
   -- bytes that are there from p on, and what follows them
