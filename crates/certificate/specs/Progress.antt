@@ -6,7 +6,9 @@ use Rattle.ballots.specs.Lending.{answered}
 use Rattle.pairwise.specs.declared.Pairwise.{Pairwise}
 use Rattle.pairwise.specs.declared.grid.Grid.{Grid}
 use Rattle.pairwise.specs.Grids.{cell, entry}
+use Rattle.paths.specs.Found.{Wrote}
 use Rattle.certificate.specs.declared.reads.Reader.{Reader}
+use Rattle.certificate.specs.declared.writes.Writer.{Writer}
 use Rattle.certificate.specs.Reading.{claims_in}
 use Rattle.certificate.specs.Judge.{Demand, unmet, reaches, stands, demands}
 
@@ -55,3 +57,9 @@ Kept v sheet x y cs =
 pub record KeptAll (v : ℕ) (sheet : List ℕ) (strengths : Grid) : Type 0 where
   pub candidates : strengths.candidates ≡ v
   pub all : (x y : ℕ) → x < v → y < v → x ≢ y → entry strengths x y ≡ (claims_in v sheet).strength x y
+
+-- the bytes are written behind those that were, all else is as it was, and the writer holds the same slice
+pub record Put (bytes : List ℕ) (old new : Writer) : Type 0 where
+  pub wrote : Wrote bytes old.at old.sheet.now new.sheet.now new.at
+  pub size : length new.sheet.now ≡ length old.sheet.now
+  pub same : new.sheet.ghost_name ≡ old.sheet.ghost_name
