@@ -1,13 +1,9 @@
 -- Wins out of a set, and sets that hold too much.
-use Rattle.std.proofs.Common.{◌≡◌, ℕ, zero, suc, ◌+◌, ◌/◌, ◌%◌, ◌^◌, ◌<◌, Bool, true, false, not, ◌&&◌, [], ◌∷◌, nat_eq, ltb, refl, ap, ◌∙◌, inl, inr, add-one, arith}
+use Rattle.std.proofs.Common.{◌≡◌, ℕ, ◌/◌, ◌%◌, ◌^◌, Bool, true, false, not, ◌&&◌, nat_eq, ltb, refl, ap, inl, inr, arith}
 use native.Mathlib.Nat.{div-eq_of_lt}
-use Rattle.std.specs.List.{range_with_len, list_all}
-use Rattle.std.proofs.lemmas.List.Folds.{list_all-append}
 use Rattle.std.proofs.lemmas.Nat.{shr_split, mod_below, pow_pos}
 use Rattle.std.proofs.lemmas.Bool.{cases_lt, cases_eq, lt-ltb, le-ltb, eq-eqb, ne_eqb}
-use Rattle.std.proofs.lemmas.Bool.Decides.{nat_tests}
 use Rattle.ballots.specs.Sets.{holds, every}
-use Rattle.ballots.proofs.Products.{counting_more}
 use Rattle.certificate.specs.Judge.{crosses, is_cut}
 
 -- no candidate from v on, by what is left of the set shifted by v
@@ -18,20 +14,6 @@ within_by_shift set v h =
 
 beyond_by_shift : (set v : ℕ) → (set / 2 ^ v ≡ 0 → ⊥) → ltb set (2 ^ v) ≡ false
 beyond_by_shift set v h = elim (cases_lt set (2 ^ v)) [ inl l ↦ absurd (h (div-eq_of_lt l)) | inr l ↦ le-ltb set (2 ^ v) l ]
-
--- a test of all numbers below n, as a chain runs it
-last_first : (a b : Bool) → (a && (b && true)) ≡ (b && a)
-last_first true true = refl
-last_first true false = refl
-last_first false true = refl
-last_first false false = refl
-
-pub every_listed : (f : ℕ → Bool) (n : ℕ) → list_all f (range_with_len 0 n) ≡ every f n
-every_listed f zero = refl
-every_listed f (suc n) =
-    let e : suc n ≡ n + 1 = omega arith in
-    ap (λ k. list_all f (range_with_len 0 k)) e
-    ∙ (ap (list_all f) (counting_more n) ∙ (list_all-append f (range_with_len 0 n) (n ∷ []) ∙ (ap (λ t. t && (f n && true)) (every_listed f n) ∙ last_first (every f n) (f n))))
 
 -- nobody below v whom a crosses to
 abbrev pub calm : (ℕ → ℕ → ℕ) → ℕ → ℕ → ℕ → ℕ → Bool

@@ -1,3 +1,4 @@
+pub mod Every
 pub mod Pairs
 pub mod Follow
 pub mod Crossing
