@@ -26,7 +26,7 @@ unmet_on (d ∷ ds) es h = let k = met_first d ds h in rw k.0 (unmet_on ds es k.
 
 unmet_stop : (ds es : List Demand) (e : Refusal) → unmet ds ≡ Some e → unmet (ds ++ es) ≡ Some e
 unmet_stop [] es e h = grind arith
-unmet_stop (d ∷ ds) es e h = elim (cases_Bool d.0) [
+unmet_stop (d ∷ ds) es e h = elim (cases_Bool d.met) [
   | inl t ↦ rw t (unmet_stop ds es e (rw t at h))
   | inr t ↦ rw t (rw t at h)
 ]
