@@ -1,8 +1,7 @@
 // Random numbers, and random files of ballots: the same ones at every run.
-use crate::bytes::Bytes;
 use crate::slow::MOST;
-use ballots::MOST_CANDIDATES;
 use best::TieBreak;
+use std::alloc::{AllocError, Global};
 
 // Where the numbers begin.
 const SEED: u64 = 0x9e37_79b9_7f4a_7c15;
@@ -97,25 +96,23 @@ impl Random {
     }
 
     // A file of one candidate at least, and at most as many as the slow count takes.
-    pub fn file(&mut self) -> Bytes {
+    pub fn file(&mut self, heap: Global) -> Result<Vec<u8>, AllocError> {
         let candidates = self.below(MOST as u8).saturating_add(1);
         let ballots = self.ballots();
         let ranks = self.ranks();
-        let mut file = Bytes::header(candidates, ballots);
+        let mut file = vec![in heap; candidates, ballots, 0]?;
         for _ in 0..ballots {
             for _ in 0..candidates {
-                file.push(self.rank(ranks));
+                file.push(self.rank(ranks))?;
             }
         }
-        file
+        Ok(file)
     }
 
     // A tie-break order, in which some keys are equal.
     pub fn tie_break(&mut self) -> TieBreak {
-        let mut keys = [0u8; MOST_CANDIDATES];
-        for x in 0..MOST_CANDIDATES {
-            keys[x] = self.below(5);
+        TieBreak {
+            keys: std::array::from_fn(|_| self.below(5)),
         }
-        TieBreak { keys }
     }
 }
