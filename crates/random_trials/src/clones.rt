@@ -1,4 +1,6 @@
 // Random files with a clone set, of which some are struck.
+ghost use Rattle.std.specs.Prelude.{◌≤◌};
+
 use crate::failure::{Disagreement, Failure};
 use crate::random::{Random, Ranks};
 use crate::slow::MOST;
@@ -34,7 +36,7 @@ fn only(x: u8) -> u32 {
 
 // One of the clone set stays, another is struck, and of the rest some are in the set and some of those stay.
 fn draw_clones(random: &mut Random) -> Clones {
-    let candidates = random.below(MOST as u8 - 1).saturating_add(2);
+    let candidates = random.below(MOST as u8 - 1) + 2;
     let one = random.below(candidates);
     let other = if one == 0 { 1 } else { random.below(one) };
     let members = random.set() & random.set() | only(one) | only(other);
@@ -47,19 +49,21 @@ fn draw_clones(random: &mut Random) -> Clones {
 }
 
 // A rank close to the level, with no other level between; close to a blank are blanks and the last ranks.
-fn close_to(random: &mut Random, level: u8) -> u8 {
+fn close_to(random: &mut Random, level: u8) -> u8
+    requires { level ≤ 240 }
+{
     let near = random.below(APART);
     if level == 0 && near > 0 {
         return 255 - near;
     }
-    level.saturating_add(near)
+    level + near
 }
 
 impl Clones {
     fn staying(&self) -> u8 {
         (0..self.candidates)
             .filter(|x| holds(self.stay, usize::from(*x)))
-            .fold(0, |number: u8, _| number.saturating_add(1))
+            .count() as u8
     }
 
     // Whether one of the others has this rank on the ballot.
@@ -77,7 +81,7 @@ impl Clones {
         let mut ballot: [u8; MOST] = std::array::from_fn(|_| random
             .rank(ranks)
             .wrapping_mul(APART));
-        let level = random.rank(ranks).wrapping_mul(APART);
+        let level = random.rank(ranks) * APART;
         let shared = self.is_shared(&ballot, level);
         for (x, rank) in ballot.iter_mut().enumerate() {
             if holds(self.members, x) {
@@ -107,11 +111,11 @@ impl Clones {
         all & others == kept & others && (all & self.members != 0) == (kept & self.members != 0)
     }
 
-    fn draw_files(&self, heap: Global, random: &mut Random) -> Result<Files, AllocError> {
+    fn draw_files(&self, random: &mut Random) -> Result<Files, AllocError> {
         let ballots = random.ballots();
         let ranks = random.ranks();
-        let mut all = vec![in heap; self.candidates, ballots, 0]?;
-        let mut struck = vec![in heap; self.staying(), ballots, 0]?;
+        let mut all = vec![in random.heap; self.candidates, ballots, 0]?;
+        let mut struck = vec![in random.heap; self.staying(), ballots, 0]?;
         for _ in 0..ballots {
             let ballot = self.draw_ballot(random, ranks);
             for (x, rank) in ballot.iter().take(usize::from(self.candidates)).enumerate() {
@@ -142,10 +146,10 @@ fn agree(heap: Global, clones: &Clones, files: &Files) -> Result<bool, AllocErro
 }
 
 // Tries one random file.
-fn trial(heap: Global, random: &mut Random) -> Result<(), Failure> {
+fn trial(random: &mut Random) -> Result<(), Failure> {
     let clones = draw_clones(random);
-    let files = clones.draw_files(heap, random)?;
-    if agree(heap, &clones, &files)? {
+    let files = clones.draw_files(random)?;
+    if agree(random.heap, &clones, &files)? {
         return Ok(());
     }
     Err(Failure::Trial {
@@ -157,7 +161,7 @@ fn trial(heap: Global, random: &mut Random) -> Result<(), Failure> {
 
 pub fn clone_files(rt: &HostRuntime, random: &mut Random) -> Result<(), Failure> {
     for _ in 0..FILES {
-        trial(rt.alloc(), random)?;
+        trial(random)?;
     }
     println!(rt; "clone files {FILES}: struck files agree, best agrees")?;
     Ok(())

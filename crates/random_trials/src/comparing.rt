@@ -5,7 +5,6 @@ use crate::sheets::Verdicts;
 use crate::slow::{MOST, SlowCount};
 use best::TieBreak;
 use paths::Strengths;
-use std::alloc::Global;
 use std::io;
 
 // How many random files are tried.
@@ -23,7 +22,7 @@ const NOBODY: u8 = 255;
 fn path_agrees(strengths: &Strengths, slow: &SlowCount<'_>, x: usize, y: usize) -> bool {
     let mut lent = [NOBODY; LENT];
     let length = strengths.write_path(x, y, &mut lent, START);
-    let written = START..length.saturating_add(START);
+    let written = START..START + length;
     let around_it = lent
         .iter()
         .enumerate()
@@ -92,14 +91,14 @@ struct Tally {
 
 impl Tally {
     // Tries one random file.
-    fn trial(&mut self, heap: Global, random: &mut Random) -> Result<(), Failure> {
-        let file = random.file(heap)?;
+    fn trial(&mut self, random: &mut Random) -> Result<(), Failure> {
+        let file = random.file()?;
         let slow = SlowCount::of(&file);
         if let Err(what) = compare(&slow, &random.tie_break()) {
-            let other = Vec::new(heap);
+            let other = Vec::new(random.heap);
             return Err(Failure::Trial { what, file, other });
         }
-        if let Some(other) = self.verdicts.wrong_sheet(heap, random, &slow)? {
+        if let Some(other) = self.verdicts.wrong_sheet(random, &slow)? {
             let what = Disagreement::Sheets;
             return Err(Failure::Trial { what, file, other });
         }
@@ -126,7 +125,7 @@ impl Tally {
 pub fn random_files(rt: &HostRuntime, random: &mut Random) -> Result<(), Failure> {
     let mut tally = Tally::default();
     for _ in 0..FILES {
-        tally.trial(rt.alloc(), random)?;
+        tally.trial(random)?;
     }
     tally.print(rt)?;
     Ok(())

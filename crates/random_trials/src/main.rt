@@ -14,7 +14,7 @@ use random::Random;
 use std::io;
 
 fn trials(rt: &HostRuntime) -> Result<(), Failure> {
-    let mut random = Random::new();
+    let mut random = Random::new(rt.alloc());
     comparing::random_files(rt, &mut random)?;
     clones::clone_files(rt, &mut random)
 }

@@ -1,10 +1,12 @@
 // The certificates of random files, as they are written and damaged. They are judged by a reader that shares no code with
 // the writer and the checker.
+ghost use Rattle.std.specs.Prelude.{◌≤◌, length, IfSome};
+
 use crate::random::Random;
 use crate::slow::{MOST, SlowCount};
 use certificate::{certify, check};
 use pairwise::CELLS;
-use std::alloc::{AllocError, Global};
+use std::alloc::AllocError;
 
 // How often the certificate of a file is damaged, each time as it was written.
 const DAMAGES: u8 = 10;
@@ -122,15 +124,15 @@ fn is_as_said(slow: &SlowCount<'_>, sheet: &[u8], twice: bool) -> bool {
 // What a byte is changed by: anything, a bit, or a little, as a candidate or a small cut becomes another one.
 fn change(random: &mut Random) -> u8 {
     match random.below(3) {
-        0 => random.below(255).saturating_add(1),
+        0 => random.below(255) + 1,
         1 => 1u8.rotate_left(u32::from(random.below(8))),
-        _ => random.below(7).saturating_add(1),
+        _ => random.below(7) + 1,
     }
 }
 
 // The certificate with one byte changed.
-fn changed(heap: Global, random: &mut Random, sheet: &[u8]) -> Result<Vec<u8>, AllocError> {
-    let mut other = sheet.to_vec(heap)?;
+fn changed(random: &mut Random, sheet: &[u8]) -> Result<Vec<u8>, AllocError> {
+    let mut other = sheet.to_vec(random.heap)?;
     if let Some(byte) = other.get_mut(random.place(sheet.len())) {
         *byte ^= change(random);
     }
@@ -138,8 +140,8 @@ fn changed(heap: Global, random: &mut Random, sheet: &[u8]) -> Result<Vec<u8>, A
 }
 
 // The certificate with one byte less, or one more.
-fn resized(heap: Global, random: &mut Random, sheet: &[u8]) -> Result<Vec<u8>, AllocError> {
-    let mut other = sheet.to_vec(heap)?;
+fn resized(random: &mut Random, sheet: &[u8]) -> Result<Vec<u8>, AllocError> {
+    let mut other = sheet.to_vec(random.heap)?;
     if random.once_in(2) {
         let _ = other.pop();
     } else {
@@ -149,7 +151,9 @@ fn resized(heap: Global, random: &mut Random, sheet: &[u8]) -> Result<Vec<u8>, A
 }
 
 // The place of the length of some path.
-fn path_place(random: &mut Random, sheet: &[u8]) -> Option<usize> {
+fn path_place(random: &mut Random, sheet: &[u8]) -> Option<usize>
+    ensures { IfSome result (λ place. place ≤ length sheet.now) }
+{
     let mut reader = Reader { rest: sheet };
     let candidates = usize::from(reader.byte()?);
     let _ = reader.take(candidates * candidates * 2)?;
@@ -161,14 +165,12 @@ fn path_place(random: &mut Random, sheet: &[u8]) -> Option<usize> {
 }
 
 // The certificate with a detour put into some path: from a candidate on it over two others and back.
-fn lengthened(heap: Global, random: &mut Random, sheet: &[u8]) -> Result<Vec<u8>, AllocError> {
+fn lengthened(random: &mut Random, sheet: &[u8]) -> Result<Vec<u8>, AllocError> {
     let place = path_place(random, sheet).unwrap_or(0);
     let length = sheet.get(place).copied().unwrap_or(0);
     let candidates = sheet.first().copied().unwrap_or(0);
-    let turn = place
-        .saturating_add(1)
-        .saturating_add(usize::from(random.below(length)));
-    let mut other = Vec::new(heap);
+    let turn = place + 1 + usize::from(random.below(length));
+    let mut other = Vec::new(random.heap);
     for (at, byte) in sheet.iter().enumerate() {
         if at == place {
             other.push(byte.wrapping_add(3))?;
@@ -183,11 +185,11 @@ fn lengthened(heap: Global, random: &mut Random, sheet: &[u8]) -> Result<Vec<u8>
     Ok(other)
 }
 
-fn damaged(heap: Global, random: &mut Random, sheet: &[u8]) -> Result<Vec<u8>, AllocError> {
+fn damaged(random: &mut Random, sheet: &[u8]) -> Result<Vec<u8>, AllocError> {
     match random.below(8) {
-        0 => resized(heap, random, sheet),
-        1 | 2 => lengthened(heap, random, sheet),
-        _ => changed(heap, random, sheet),
+        0 => resized(random, sheet),
+        1 | 2 => lengthened(random, sheet),
+        _ => changed(random, sheet),
     }
 }
 
@@ -206,13 +208,12 @@ impl Verdicts {
     // The damaged certificate that the checker is wrong on.
     fn wrong_on(
         &mut self,
-        heap: Global,
         random: &mut Random,
         slow: &SlowCount<'_>,
         sheet: &[u8],
     ) -> Result<Option<Vec<u8>>, AllocError> {
         for _ in 0..DAMAGES {
-            let other = damaged(heap, random, sheet)?;
+            let other = damaged(random, sheet)?;
             if !self.agrees(slow, &other) {
                 return Ok(Some(other));
             }
@@ -223,13 +224,12 @@ impl Verdicts {
     // The certificate that is wrong, or that the checker is wrong on.
     pub fn wrong_sheet(
         &mut self,
-        heap: Global,
         random: &mut Random,
         slow: &SlowCount<'_>,
     ) -> Result<Option<Vec<u8>>, AllocError> {
         let mut table = [0u16; CELLS];
         let mut strengths = [0u16; CELLS];
-        let mut sheet = vec![in heap; 0u8; ROOM]?;
+        let mut sheet = vec![in random.heap; 0u8; ROOM]?;
         let Ok(certified) = certify(slow.bytes, &mut table, &mut strengths, &mut sheet) else {
             return Ok(Some(sheet));
         };
@@ -240,6 +240,6 @@ impl Verdicts {
         {
             return Ok(Some(sheet));
         }
-        self.wrong_on(heap, random, slow, &sheet)
+        self.wrong_on(random, slow, &sheet)
     }
 }

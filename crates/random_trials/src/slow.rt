@@ -55,7 +55,7 @@ fn preferring(bytes: &[u8], candidates: usize, x: usize, y: usize) -> u16 {
         .chunks(candidates.max(1))
         .take(usize::from(ballots))
         .filter(|ballot| prefers(ballot, x, y))
-        .fold(0, |number: u16, _| number.saturating_add(1))
+        .count() as u16
 }
 
 fn counts_of(bytes: &[u8], candidates: usize) -> Table {
@@ -92,19 +92,18 @@ fn strongest(
     if x == y {
         return u16::MAX;
     }
-    let mut most: u16 = 0;
-    if left == 0 {
-        return most;
-    }
-    for z in 0..candidates.min(MOST) {
-        if !visited[z] {
-            let mut with_z = visited;
-            with_z[z] = true;
-            let rest = strongest(wins, candidates, z, y, with_z, left - 1);
-            most = most.max(wins.at(x, z).min(rest));
-        }
-    }
-    most
+    let Some(left) = left.checked_sub(1) else {
+        return 0;
+    };
+    (0..candidates.min(MOST))
+        .filter(|z| !visited[*z])
+        .map(|z| {
+            let with_z = std::array::from_fn(|passed| visited[passed] || passed == z);
+            let rest = strongest(wins, candidates, z, y, with_z, left);
+            wins.at(x, z).min(rest)
+        })
+        .max()
+        .unwrap_or(0)
 }
 
 fn strengths_of(wins: &Table, candidates: usize) -> Table {
@@ -178,13 +177,9 @@ impl<'a> SlowCount<'a> {
     // The set of the best.
     pub fn best(&self) -> u32 {
         let everybody = self.everybody();
-        let mut set: u32 = 0;
-        for x in 0..MOST {
-            if everybody[x] && self.unbeaten(&everybody, x) {
-                set |= 1 << x;
-            }
-        }
-        set
+        (0..MOST)
+            .filter(|x| everybody[*x] && self.unbeaten(&everybody, *x))
+            .fold(0, |set, x| set | 1 << x)
     }
 
     // Whether x comes next in the full order: it is left and unbeaten, and before every other one that is.
@@ -202,12 +197,10 @@ impl<'a> SlowCount<'a> {
         let mut left = self.everybody();
         let mut order = [0u8; MOST];
         for place in order.iter_mut() {
-            for x in 0..MOST {
-                if left[x] && self.comes_next(keys, &left, x) {
-                    *place = x as u8;
-                    left[x] = false;
-                    break;
-                }
+            let next = (0..MOST).find(|x| left[*x] && self.comes_next(keys, &left, *x));
+            if let Some(x) = next {
+                *place = x as u8;
+                left[x] = false;
             }
         }
         order
