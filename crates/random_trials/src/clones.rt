@@ -1,8 +1,8 @@
 // Random files with a clone set, of which some are struck.
-ghost use Rattle.std.specs.Prelude.{◌≤◌};
+ghost use Rattle.std.specs.Prelude.{◌*◌, ◌≤◌};
 
 use crate::failure::{Disagreement, Failure};
-use crate::random::{Random, Ranks};
+use crate::random::{MOST_LEVELS, Random, Ranks};
 use crate::slow::MOST;
 use ballots::holds;
 use best::best_of_both;
@@ -50,7 +50,7 @@ fn draw_clones(random: &mut Random) -> Clones {
 
 // A rank close to the level, with no other level between; close to a blank are blanks and the last ranks.
 fn close_to(random: &mut Random, level: u8) -> u8
-    requires { level ≤ 240 }
+    requires { level ≤ MOST_LEVELS * APART }
 {
     let near = random.below(APART);
     if level == 0 && near > 0 {
@@ -60,6 +60,7 @@ fn close_to(random: &mut Random, level: u8) -> u8
 }
 
 impl Clones {
+    // How many stay.
     fn staying(&self) -> u8 {
         (0..self.candidates)
             .filter(|x| holds(self.stay, usize::from(*x)))
@@ -78,9 +79,7 @@ impl Clones {
     // A ballot on which the clones stand together: all level with some other candidate, or close to each other with
     // nobody between.
     fn draw_ballot(&self, random: &mut Random, ranks: Ranks) -> [u8; MOST] {
-        let mut ballot: [u8; MOST] = std::array::from_fn(|_| random
-            .rank(ranks)
-            .wrapping_mul(APART));
+        let mut ballot: [u8; MOST] = std::array::from_fn(|_| random.rank(ranks) * APART);
         let level = random.rank(ranks) * APART;
         let shared = self.is_shared(&ballot, level);
         for (x, rank) in ballot.iter_mut().enumerate() {

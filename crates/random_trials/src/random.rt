@@ -1,5 +1,6 @@
 // Random numbers, and random files of ballots: the same ones at every run.
 ghost use Rattle.std.specs.Prelude.{◌≤◌, ◌-◌};
+ghost use Rattle.random_trials.specs.declared.random.TheConstants.{MOST_LEVELS};
 
 use crate::slow::MOST;
 use best::TieBreak;
@@ -10,6 +11,9 @@ const SEED: u64 = 0x9e37_79b9_7f4a_7c15;
 
 // The greatest number of ballots of a random file.
 const MOST_BALLOTS: u8 = 40;
+
+// The greatest number of levels, and so the greatest rank, of a random file.
+pub const MOST_LEVELS: u8 = 60;
 
 // The generator xorshift64*, and where the files are made.
 #[derive(Drop)]
@@ -23,7 +27,7 @@ pub struct Random {
 pub struct Ranks {
     pub levels: u8,
     pub blank_in: u8,
-    ghost few: { levels ≤ 60 },
+    ghost few: { levels ≤ MOST_LEVELS },
 }
 
 impl Random {
@@ -74,7 +78,7 @@ impl Random {
             0 => 2,
             1 => 3,
             2 => 6,
-            _ => 60,
+            _ => MOST_LEVELS,
         };
         let blank_in = match self.below(3) {
             0 => 2,
@@ -85,9 +89,9 @@ impl Random {
     }
 
     pub fn rank(&mut self, ranks: Ranks) -> u8
-        ensures { result ≤ 60 }
+        ensures { result ≤ MOST_LEVELS }
     {
-        if self.once_in(ranks.blank_in) || ranks.levels == 0 {
+        if self.once_in(ranks.blank_in) {
             0
         } else {
             self.below(ranks.levels) + 1

@@ -97,13 +97,12 @@ impl<'a> Reader<'a> {
     fn has_entries(&mut self, slow: &SlowCount<'_>, twice: bool) -> bool {
         for x in 0..slow.candidates {
             for y in 0..slow.candidates {
-                if x != y {
-                    let Some(entry) = self.entry() else {
-                        return false;
-                    };
-                    if !entry.is_right(slow, x, y, twice) {
-                        return false;
-                    }
+                if x != y
+                    && !self
+                        .entry()
+                        .is_some_and(|entry| entry.is_right(slow, x, y, twice))
+                {
+                    return false;
                 }
             }
         }

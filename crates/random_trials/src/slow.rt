@@ -16,6 +16,14 @@ struct Table {
 }
 
 impl Table {
+    fn of<F: Fn(usize, usize) -> u16>(number: F) -> Table
+        requires { F.IsAlwaysCallable number }
+    {
+        Table {
+            cells: std::array::from_fn(|cell| number(cell / MOST, cell % MOST)),
+        }
+    }
+
     fn at(&self, x: usize, y: usize) -> u16 {
         if x < MOST && y < MOST {
             self.cells[x * MOST + y]
@@ -59,24 +67,20 @@ fn preferring(bytes: &[u8], candidates: usize, x: usize, y: usize) -> u16 {
 }
 
 fn counts_of(bytes: &[u8], candidates: usize) -> Table {
-    let cells = std::array::from_fn(|cell| {
-        let (x, y) = (cell / MOST, cell % MOST);
+    Table::of(|x, y| {
         if x < candidates && y < candidates {
             preferring(bytes, candidates, x, y)
         } else {
             0
         }
-    });
-    Table { cells }
+    })
 }
 
 fn wins_of(counts: &Table) -> Table {
-    let cells = std::array::from_fn(|cell| {
-        let (x, y) = (cell / MOST, cell % MOST);
+    Table::of(|x, y| {
         let for_x = counts.at(x, y);
         if for_x > counts.at(y, x) { for_x } else { 0 }
-    });
-    Table { cells }
+    })
 }
 
 // The strength of the strongest path from x to y, over candidates that were not visited: every next candidate is tried,
@@ -107,15 +111,13 @@ fn strongest(
 }
 
 fn strengths_of(wins: &Table, candidates: usize) -> Table {
-    let cells = std::array::from_fn(|cell| {
-        let (x, y) = (cell / MOST, cell % MOST);
+    Table::of(|x, y| {
         if x == y || x >= candidates || y >= candidates {
             return 0;
         }
         let visited = std::array::from_fn(|z| z == x);
         strongest(wins, candidates, x, y, visited, candidates)
-    });
-    Table { cells }
+    })
 }
 
 // Whether the keys put x before y: the smaller key first, and equal keys by number.
