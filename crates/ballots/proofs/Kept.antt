@@ -1,7 +1,7 @@
 -- The candidates that stay, and their numbers among themselves.
 use Rattle.std.proofs.Common.{◌≡◌, ℕ, zero, suc, ◌+◌, ◌<◌, ◌≤◌, Bool, true, false, cond, [], ◌∷◌, ◌++◌, length, get_or, refl, ap, ◌∙◌, inl, inr, arith}
-use Rattle.std.specs.List.{range_with_len}
-use Rattle.std.proofs.lemmas.List.Elements.{filter-append}
+use Rattle.std.specs.List.{range_with_len, All}
+use Rattle.std.proofs.lemmas.List.Elements.{filter-append, All-from_get_or}
 use Rattle.std.proofs.lemmas.List.{append-nil, length_push, get_or_append_left, get_or_push}
 use Rattle.std.proofs.lemmas.Bool.{cases_Bool, cases_eq, cases_lt}
 use Rattle.ballots.specs.Strikes.{kept, renumbered}
@@ -81,3 +81,7 @@ module _ (keep : ℕ → Bool) where
         let (a, b, c) = found n i (rw (kept_out n k) at h) in
         rw (kept_out n k) (omega arith, b, c)
   ])
+
+  -- all of them are candidates
+  pub kept_below : (n : ℕ) → All (λ x. x < n) (kept keep n)
+  kept_below n = All-from_get_or (λ x. x < n) (kept keep n) 0 (λ i l. (found n i l).0)

@@ -2,16 +2,12 @@
 ghost use Rattle.ballots.specs.Laws.{VotesAccepted, OnlyVotesAccepted, StrikeKeepsRanks};
 
 // The files of votes are accepted, and no other bytes.
-pub fn votes_are_accepted() -> u8
+pub fn votes_are_accepted()
     ensures all { VotesAccepted }
     ensures only { OnlyVotesAccepted }
-{
-    0
-}
+{}
 
 // Where a file is accepted and somebody stays, the struck file is accepted, and says the same of those that stay.
-pub fn striking_keeps_ranks() -> u8
+pub fn striking_keeps_ranks()
     ensures { StrikeKeepsRanks }
-{
-    0
-}
+{}

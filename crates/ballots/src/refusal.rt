@@ -2,6 +2,7 @@
 ghost use Rattle.std.specs.Prelude.{◌≡◌, Some};
 ghost use Rattle.ballots.specs.Refusals.{number_of, place_of, told};
 
+use std::error::Error;
 use std::fmt;
 
 // The place of a pair of candidates is `from × PAIR_STRIDE + to`.
@@ -60,13 +61,11 @@ impl Refusal {
     {
         match self {
             Refusal::Length { at } | Refusal::Table { at } => at,
-            Refusal::Candidates | Refusal::Short(Lent::Table) => 0,
-            Refusal::Short(Lent::Strengths) => 1,
-            Refusal::Short(Lent::Sheet) => 2,
-            Refusal::Short(Lent::Ballots) => 3,
+            Refusal::Candidates => 0,
+            Refusal::Short(lent) => lent as usize,
             Refusal::Draw { place } => place,
             Refusal::Path { from, to } | Refusal::Cut { from, to } => {
-                from as usize * PAIR_STRIDE + to as usize
+                usize::from(from) * PAIR_STRIDE + usize::from(to)
             }
             Refusal::Best => BEST_PLACE,
         }
@@ -82,3 +81,5 @@ impl fmt::Display for Refusal {
         write!(f, "refused {number} at {place}")
     }
 }
+
+impl Error for Refusal {}

@@ -9,8 +9,5 @@ const ROOM: usize = 32;
 pub fn holds(set: u32, candidate: usize) -> bool
     ensures { result ≡ holds set candidate }
 {
-    if candidate >= ROOM {
-        return false;
-    }
-    (set >> candidate) & 1 == 1
+    candidate < ROOM && (set >> candidate) & 1 == 1
 }

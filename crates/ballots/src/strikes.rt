@@ -1,36 +1,35 @@
 // Candidates struck off every ballot.
-ghost use Rattle.std.specs.Prelude.{◌≡◌, ◌≤◌, length};
+ghost use Rattle.std.specs.Prelude.{◌≡◌, ◌<◌, ◌≤◌, length, All};
+ghost use Rattle.ballots.specs.Format.{most_candidates};
 ghost use Rattle.ballots.specs.Sets.{holds};
 ghost use Rattle.ballots.specs.Strikes.{kept, ranks_at, Strikes};
 
-use crate::reads::HEADER_LENGTH;
-use crate::{Lent, Refusal, holds, read};
+use crate::file::HEADER_LENGTH;
+use crate::{Lent, MOST_CANDIDATES, Refusal, holds, read};
+use arrayvec::ArrayVec;
 
-// How many of the candidates stay.
-fn staying(keep: u32, candidates: usize) -> usize
-    ensures number { result ≡ length (kept (holds keep) candidates) }
-    ensures few { result ≤ candidates }
+// The candidates that stay, in order.
+fn staying(keep: u32, candidates: usize) -> ArrayVec<usize, MOST_CANDIDATES>
+    requires { candidates ≤ most_candidates }
+    ensures { result.items ≡ kept (holds keep) candidates }
 {
-    let mut number = 0;
+    let mut staying = ArrayVec::new();
     for x in 0..candidates {
         if holds(keep, x) {
-            number += 1;
+            staying.push(x);
         }
     }
-    number
+    staying
 }
 
 // Writes the ranks of the candidates that stay.
-fn strike_ballot(ballot: &[u8], keep: u32, out: &mut [u8])
-    requires { length out.old ≡ length (kept (holds keep) (length ballot.now)) }
-    ensures { out.new ≡ ranks_at (kept (holds keep) (length ballot.now)) ballot.now }
+fn strike_ballot(ballot: &[u8], staying: &[usize], out: &mut [u8])
+    requires inside { All (λ x. x < length ballot.now) staying.now }
+    requires room { length out.old ≡ length staying.now }
+    ensures { out.new ≡ ranks_at staying.now ballot.now }
 {
-    let mut at = 0;
-    for x in 0..ballot.len() {
-        if holds(keep, x) {
-            out[at] = ballot[x];
-            at += 1;
-        }
+    for (place, x) in staying.iter().enumerate() {
+        out[place] = ballot[*x];
     }
 }
 
@@ -39,22 +38,20 @@ fn strike_ballot(ballot: &[u8], keep: u32, out: &mut [u8])
 pub fn strike(bytes: &[u8], keep: u32, out: &mut [u8]) -> Result<usize, Refusal>
     ensures { Strikes bytes.now keep out.old out.new result }
 {
-    let header = read(bytes)?;
-    let stay = staying(keep, header.candidates);
+    let file = read(bytes)?;
+    let staying = staying(keep, file.candidates);
+    let stay = staying.len();
     if stay == 0 {
         return Err(Refusal::Candidates);
     }
-    let ballots = header.ballots as usize;
-    let whole = HEADER_LENGTH + ballots * stay;
+    let whole = HEADER_LENGTH + usize::from(file.ballots) * stay;
     if out.len() < whole {
         return Err(Refusal::Short(Lent::Ballots));
     }
     out[..HEADER_LENGTH].copy_from_slice(&[stay as u8, bytes[1], bytes[2]]);
-    for i in 0..ballots {
-        if let Some(ballot) = header.ballot(bytes, i) {
-            let start = HEADER_LENGTH + i * stay;
-            strike_ballot(ballot, keep, &mut out[start..start + stay]);
-        }
+    for (i, ballot) in file.iter().enumerate() {
+        let start = HEADER_LENGTH + i * stay;
+        strike_ballot(ballot, &staying, &mut out[start..start + stay]);
     }
     Ok(whole)
 }

@@ -9,11 +9,10 @@ const UNRANKED: u16 = 256;
 fn rank(ballot: &[u8], x: usize) -> u16
     ensures { result ≡ slice_index_or (ranks_of ballot.now) x unranked }
 {
-    if x >= ballot.len() {
-        return UNRANKED;
+    match ballot.get(x) {
+        None | Some(0) => UNRANKED,
+        Some(rank) => u16::from(*rank),
     }
-    let rank = ballot[x];
-    if rank == 0 { UNRANKED } else { rank as u16 }
 }
 
 // Whether the ballot puts x over y.

@@ -9,17 +9,16 @@ use ballots::Refusal;
 pub fn tally(bytes: &[u8]) -> Result<Pairwise, Refusal>
     ensures { Tallied bytes.now result }
 {
-    let header = ballots::read(bytes)?;
+    let file = ballots::read(bytes)?;
     let mut cells = [0u16; CELLS];
-    for i in 0..header.ballots as usize {
-        if let Some(ballot) = header.ballot(bytes, i) {
-            add_ballot(&mut cells, ballot);
-        }
+    let ballots = file.iter();
+    for ballot in ballots {
+        add_ballot(&mut cells, ballot);
     }
     Ok(Pairwise {
-        ballots: header.ballots,
+        ballots: file.ballots,
         counts: Grid {
-            candidates: header.candidates,
+            candidates: file.candidates,
             cells,
         },
     })

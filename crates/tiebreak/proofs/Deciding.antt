@@ -1,18 +1,22 @@
 -- The order that drawn ballots decide, and its keys.
-use Rattle.std.proofs.Common.{◌≡◌, ℕ, suc, ◌+◌, ◌-◌, ◌*◌, ◌<◌, ◌≤◌, Bool, true, false, not, ◌&&◌, ◌||◌, ltb, ◌≢◌, ◌⊎◌, List, [], ◌∷◌, map, length, get_or, sym, refl, ◌∙◌, inl, inr, arith}
-use Rattle.std.specs.List.{range_with_len}
+use Rattle.std.proofs.Common.{◌≡◌, ℕ, zero, suc, ◌+◌, ◌*◌, ◌<◌, ◌≤◌, Bool, true, false, not, ◌&&◌, ◌||◌, ltb, ◌≢◌, ◌⊎◌, List, [], ◌∷◌, map, length, get_or, drop, sym, refl, ap, ◌∙◌, inl, inr, arith}
+use Rattle.std.specs.List.{range_with_len, filter}
 use Rattle.std.proofs.lemmas.Nat.{mul-le}
-use Rattle.std.proofs.lemmas.List.{length-take, length-drop}
-use Rattle.std.proofs.lemmas.Bool.{cases_eq, cases_lt, cases_Bool}
+use Rattle.std.proofs.lemmas.List.Elements.{filter-append}
+use Rattle.std.proofs.lemmas.List.{length-append, length-take, length-drop, drop_all, drop_more}
+use Rattle.std.proofs.lemmas.List.FromFn.{length-map-range_with_len, get_or-map-range_with_len}
+use Rattle.std.proofs.lemmas.Bool.{cases_eq, cases_Bool}
 use Rattle.std.proofs.lemmas.Bool.Decides.{nat_tests}
-use Rattle.ballots.specs.Format.{header_length, unranked, candidates_in, ballot_bytes, ranks_of}
+use Rattle.std.proofs.lemmas.Grind.{common_steps}
+use Rattle.ballots.specs.Format.{header_length, unranked, candidates_in, ballots_in, ballot_bytes, ranks_of}
 use Rattle.ballots.specs.Sets.{number}
 use Rattle.ballots.proofs.Everybody.{number_lt}
-use Rattle.ballots.proofs.Products.{row_ends}
+use Rattle.ballots.proofs.Products.{counting_more}
 use Rattle.pairwise.specs.Counts.{over}
 use Rattle.best.specs.Orders.{IsTieBreak}
 use Rattle.best.specs.Compared.{before_by}
-use Rattle.tiebreak.specs.Draws.{drawn_at, decided, DecidedIsATieBreak}
+use Rattle.tiebreak.proofs.Drawing.{pair_low, pair_high}
+use Rattle.tiebreak.specs.Draws.{drawn_in, drawn_at, drawn_ballots, decided, DecidedIsATieBreak}
 
 decided_total : (last : ℕ) (ps : List (List ℕ)) (x y : ℕ) → x ≢ y → (decided last ps x y ≡ true) ⊎ (decided last ps y x ≡ true)
 unfolding over
@@ -61,11 +65,6 @@ keys_order before keys n x y t xn yn ex ey = elim (cases_eq x y) [
   ]
 ]
 
--- a drawn ballot, as it was found
-pub drawn_ranks : (bs draw p : List ℕ) (v k i : ℕ) → p ≡ ballot_bytes v bs k → v ≡ candidates_in bs → k ≡ drawn_at draw i →
-    ranks_of p ≡ ranks_of (ballot_bytes (candidates_in bs) bs (drawn_at draw i))
-drawn_ranks bs draw p v k i e ev ek = rw (e, ev, ek)
-
 -- a ballot without ranks decides nothing
 blank_over : (p : List ℕ) (x y : ℕ) → length p ≡ 0 → over unranked (ranks_of p) x y ≡ false
 unfolding over
@@ -73,29 +72,39 @@ blank_over [] x y h = refl
 blank_over (r ∷ p) x y h = absurd (let z : ⊥ = omega arith in z)
 
 -- nor does one that is not in the file
-pub absent_over : (bs : List ℕ) (v n k x y : ℕ) → length bs ≡ header_length + n * v → (n ≤ k) ⊎ (length bs < header_length + k * v + v) →
-    over unranked (ranks_of (ballot_bytes v bs k)) x y ≡ false
-absent_over bs v n k x y whole gone = elim (cases_lt k n) [
-  | inl l ↦ absurd (elim gone [ inl g ↦ omega arith | inr g ↦ omega (arith, row_ends k n v l) ])
-  | inr l ↦ blank_over (ballot_bytes v bs k) x y (simp (length-take, length-drop) (omega (arith, mul-le n v k v l (omega arith))))
-]
+pub absent_over : (bs : List ℕ) (k x y : ℕ) → length bs ≡ header_length + ballots_in bs * candidates_in bs → ballots_in bs ≤ k →
+    over unranked (ranks_of (ballot_bytes (candidates_in bs) bs k)) x y ≡ false
+absent_over bs k x y whole gone =
+    let v : ℕ = candidates_in bs in
+    blank_over (ballot_bytes v bs k) x y (simp (length-take, length-drop) (omega (arith, mul-le (ballots_in bs) v k v gone (omega arith))))
 
--- what the ballots from place i on decide, one ballot further
-module _ (last n : ℕ) (ballot : ℕ → List ℕ) (x y : ℕ) where
-  abbrev pub decided_from : ℕ → Bool
-  decided_from i = decided last (map ballot (range_with_len i (n - i))) x y
+-- the drawn ballot at place i decides before those behind it
+pub drawn_next : (bs draw : List ℕ) (x y i : ℕ) → i < drawn_in draw →
+    let p = ranks_of (ballot_bytes (candidates_in bs) bs (drawn_at draw i)) in
+    decided unranked (drop i (drawn_ballots bs draw)) x y
+    ≡ (over unranked p x y || (not (over unranked p y x) && decided unranked (drop (i + 1) (drawn_ballots bs draw)) x y))
+drawn_next bs draw x y i l =
+    let f : ℕ → List ℕ = λ k. ranks_of (ballot_bytes (candidates_in bs) bs (drawn_at draw k)) in
+    let some : i < length (map f (range_with_len 0 (drawn_in draw))) = omega (arith, length-map-range_with_len f 0 (drawn_in draw)) in
+    let this : get_or (map f (range_with_len 0 (drawn_in draw))) i [] ≡ f i = get_or-map-range_with_len f 0 (drawn_in draw) i i [] l (omega arith) in
+    rw (drop_more (map f (range_with_len 0 (drawn_in draw))) i [] some, this) refl
 
-  from_step : (i : ℕ) → i < n → decided_from i ≡ (over last (ballot i) x y || (not (over last (ballot i) y x) && decided_from (i + 1)))
-  from_step i l = let e : n - i ≡ suc (n - (i + 1)) = omega arith in rw e
+-- and where none is left, by number
+pub drawn_last : (bs draw : List ℕ) (x y i : ℕ) → drawn_in draw ≤ i → decided unranked (drop i (drawn_ballots bs draw)) x y ≡ ltb x y
+drawn_last bs draw x y i l =
+    let f : ℕ → List ℕ = λ k. ranks_of (ballot_bytes (candidates_in bs) bs (drawn_at draw k)) in
+    rw (drop_all i (map f (range_with_len 0 (drawn_in draw))) (omega (arith, length-map-range_with_len f 0 (drawn_in draw))))
 
-  pub from_over : (i : ℕ) → i < n → over last (ballot i) x y ≡ true → decided_from i ≡ true
-  from_over i l h = from_step i l ∙ rw h
+-- how the drawn ballots decide, one after the other
+pub ruleset drawn_steps = (common_steps, pair_low, pair_high, drawn_next, drawn_last, absent_over)
 
-  pub from_under : (i : ℕ) → i < n → over last (ballot i) x y ≡ false → over last (ballot i) y x ≡ true → decided_from i ≡ false
-  from_under i l h k = from_step i l ∙ rw (h, k)
-
-  pub from_more : (i : ℕ) → i < n → over last (ballot i) x y ≡ false → over last (ballot i) y x ≡ false → decided_from i ≡ decided_from (i + 1)
-  from_more i l h k = from_step i l ∙ rw (h, k)
-
-  pub from_end : (i : ℕ) → n ≤ i → decided_from i ≡ ltb x y
-  from_end i l = let e : n - i ≡ 0 = omega arith in rw e
+-- how many pass a test, as the candidates that are left by it
+pub number_left : (f : ℕ → Bool) (n : ℕ) → length (filter f (range_with_len 0 n)) ≡ number f n
+number_left f zero = refl
+number_left f (suc n) =
+    let e : suc n ≡ n + 1 = omega arith in
+    ap (λ k. length (filter f (range_with_len 0 k))) e ∙ ap (λ l. length (filter f l)) (counting_more n)
+    ∙ rw (filter-append f (range_with_len 0 n) (n ∷ []), length-append (filter f (range_with_len 0 n)) (filter f (n ∷ [])), number_left f n) (elim (cases_Bool (f n)) [
+      | inl p ↦ rw p (omega arith)
+      | inr p ↦ rw p (omega arith)
+    ])

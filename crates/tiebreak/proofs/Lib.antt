@@ -1,4 +1,4 @@
 pub mod Drawing
 pub mod Deciding
-pub mod Texts
 pub mod Counting
+pub mod Made

@@ -1,6 +1,8 @@
 -- The draw: a row of ballot numbers, two bytes each, low byte first, and the tie-break order that it makes. Assumes nothing.
-use Rattle.std.specs.Prelude.{◌≡◌, ℕ, zero, suc, ◌+◌, ◌*◌, ◌/◌, ◌%◌, ◌<◌, ◌≤◌, Bool, false, cond, not, ◌&&◌, ◌||◌, List, [], ◌∷◌, map, length, Some, None, Option, ◌==◌, nat_le, nat_lt, slice_index}
+use Rattle.std.specs.Prelude.{◌≡◌, ℕ, zero, suc, ◌+◌, ◌*◌, ◌/◌, ◌%◌, ◌<◌, ◌≤◌, Bool, false, cond, not, ◌&&◌, ◌||◌, List, [], ◌∷◌, map, length, Some, None, Ok, Err, Option, Result, ◌==◌, nat_le, nat_lt, slice_index}
 use Rattle.std.specs.List.{range_with_len}
+use Rattle.std.specs.Borrow.{Bor}
+use Rattle.ballots.specs.declared.file.BallotFile.{BallotFile}
 use Rattle.ballots.specs.declared.refusal.Refusal.{Refusal}
 use Rattle.ballots.specs.declared.refusal.Refusal.TheVariants.{Length, Draw}
 use Rattle.ballots.specs.Format.{unranked, candidates_in, ballot_bytes, ranks_of}
@@ -8,6 +10,7 @@ use Rattle.ballots.specs.Lending.{or_else}
 use Rattle.ballots.specs.Sets.{number}
 use Rattle.pairwise.specs.Counts.{over}
 use Rattle.best.specs.declared.orders.TieBreak.{TieBreak}
+use Rattle.tiebreak.specs.declared.draws.Draw as draws
 use Rattle.best.specs.Orders.{IsTieBreak}
 use Rattle.best.specs.Compared.{before_by}
 
@@ -45,6 +48,11 @@ drawn_ballots bs draw = map (λ i. ranks_of (ballot_bytes (candidates_in bs) bs 
 abbrev pub decided : ℕ → List (List ℕ) → ℕ → ℕ → Bool
 decided last [] x y = nat_lt x y
 decided last (p ∷ ps) x y = over last p x y || (not (over last p y x) && decided last ps x y)
+
+-- r is the draw of these bytes from the ballots of the file, or why it is refused
+abbrev pub DrawnFrom : BallotFile → Bor (List ℕ) → Result draws.Draw Refusal → Type 0
+DrawnFrom file bytes (Ok d) = (draw_refusal file.ballots bytes.now ≡ None) × (d.file ≡ file) × (d.bytes ≡ bytes)
+DrawnFrom file bytes (Err e) = draw_refusal file.ballots bytes.now ≡ Some e
 
 -- the tie-break order is the one that the draw makes
 pub record TieBreakOf (bs draw : List ℕ) (t : TieBreak) : Type 0 where

@@ -4,7 +4,7 @@ ghost use Rattle.best.specs.Answers.{CloneIndependent, IndependentByOne};
 ghost use Rattle.tiebreak.specs.Outcomes.{count_refusal, ComesTo, Leaves, Trusted, best_part};
 
 use crate::Outcome;
-use crate::draws::{check_draw, tie_break};
+use crate::draws::Draw;
 use ballots::Refusal;
 use best::full_order;
 use certificate::certify;
@@ -26,11 +26,11 @@ pub fn count(
     ensures clones { CloneIndependent bytes.now (best_part result) }
     ensures one { IndependentByOne bytes.now (best_part result) }
 {
-    let header = ballots::read(bytes)?;
-    check_draw(header.ballots, draw)?;
+    let file = ballots::read(bytes)?;
+    let draw = Draw::read(file, draw)?;
     let certified = certify(bytes, table, strengths, sheet)?;
     let pairwise = tally(bytes)?;
-    let order = full_order(&Strengths::of(&pairwise), &tie_break(header, bytes, draw));
+    let order = full_order(&Strengths::of(&pairwise), &draw.tie_break());
     Ok(Outcome {
         ballots: certified.ballots,
         best: certified.best,

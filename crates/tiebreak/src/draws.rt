@@ -1,98 +1,90 @@
 // The draw: reading it, and the tie-break order that it makes.
-ghost use Rattle.std.specs.Prelude.{◌≡◌, ℕ, ◌+◌, ◌*◌, ◌<◌, ◌≤◌, length};
+ghost use Rattle.std.specs.Prelude.{◌≡◌, ◌==◌, nat_lt, cond};
+ghost use Rattle.std.specs.List.{list_any};
+ghost use Rattle.std.specs.Int.{w16, from_le_bytes};
 ghost use Rattle.ballots.specs.Format.{unranked};
-ghost use Rattle.ballots.specs.Lending.{answered};
-ghost use Rattle.ballots.specs.Reading.{HeaderOf};
 ghost use Rattle.ballots.specs.Sets.{number};
-ghost use Rattle.tiebreak.specs.Draws.{drawn_at, drawn_before, draw_refusal, drawn_ballots, decided, TieBreakOf};
+ghost use Rattle.tiebreak.specs.Draws.{drawn_ballots, decided, DrawnFrom, TieBreakOf};
 
-use ballots::{Header, MOST_CANDIDATES, Refusal};
+use ballots::{BallotFile, Refusal};
 use best::TieBreak;
 use pairwise::over;
+use std::array;
 
-// How many bytes a drawn number takes.
+// How many bytes a drawn number takes, the low byte first.
 const NUMBER_LENGTH: usize = 2;
 
-// The number of the ballot that is drawn at place i.
-fn drawn_at(draw: &[u8], i: usize) -> usize
-    requires { 2 * i + 2 ≤ length draw.now }
-    ensures { result ≡ drawn_at draw.now i }
-{
-    u16::from_le_bytes([draw[NUMBER_LENGTH * i], draw[NUMBER_LENGTH * i + 1]]) as usize
+// Ballots of a file, as they are drawn.
+#[derive(Clone, Copy)]
+pub(crate) struct Draw<'a> {
+    file: BallotFile<'a>,
+    bytes: &'a [u8],
 }
 
-// Whether the ballot is among the first i that are drawn.
-fn drawn_before(draw: &[u8], ballot: usize, i: usize) -> bool
-    requires { 2 * i ≤ length draw.now }
-    ensures { result ≡ drawn_before draw.now ballot i }
+// Whether the ballot is among those of these numbers.
+fn drawn(numbers: &[[u8; NUMBER_LENGTH]], ballot: u16) -> bool
+    ensures { result ≡ list_any (λ number. from_le_bytes w16 number == ballot) numbers.now }
 {
-    for j in 0..i {
-        if drawn_at(draw, j) == ballot {
-            return true;
-        }
-    }
-    false
+    numbers
+        .iter()
+        .any(|number| u16::from_le_bytes(*number) == ballot)
 }
 
-// Whether the draw is one from so many ballots, or why it is refused.
-pub(crate) fn check_draw(ballots: u16, draw: &[u8]) -> Result<(), Refusal>
-    ensures { result ≡ answered (draw_refusal ballots draw.now) tt }
-{
-    if draw.len() % NUMBER_LENGTH == 1 {
-        return Err(Refusal::Length { at: draw.len() });
-    }
-    for i in 0..draw.len() / NUMBER_LENGTH {
-        let ballot = drawn_at(draw, i);
-        if ballot >= ballots as usize {
-            return Err(Refusal::Draw { place: i });
+impl<'a> Draw<'a> {
+    // The draw from the ballots of a file, or why it is refused.
+    pub(crate) fn read(file: BallotFile<'a>, bytes: &'a [u8]) -> Result<Draw<'a>, Refusal>
+        ensures { DrawnFrom file.entry bytes.entry result }
+    {
+        let (numbers, rest) = bytes.as_chunks::<NUMBER_LENGTH>();
+        if !rest.is_empty() {
+            return Err(Refusal::Length { at: bytes.len() });
         }
-        if drawn_before(draw, ballot, i) {
-            return Err(Refusal::Draw { place: i });
-        }
-    }
-    Ok(())
-}
-
-// Whether x is before y: by the first drawn ballot that does not put them equal, and by number where none does.
-fn decides(header: Header, bytes: &[u8], draw: &[u8], x: usize, y: usize) -> bool
-    requires { HeaderOf bytes.now header }
-    ensures { result ≡ decided unranked (drawn_ballots bytes.now draw.now) x y }
-{
-    for i in 0..draw.len() / NUMBER_LENGTH {
-        if let Some(ballot) = header.ballot(bytes, drawn_at(draw, i)) {
-            if over(ballot, x, y) {
-                return true;
-            }
-            if over(ballot, y, x) {
-                return false;
+        for (place, number) in numbers.iter().enumerate() {
+            let ballot = u16::from_le_bytes(*number);
+            if ballot >= file.ballots || drawn(&numbers[..place], ballot) {
+                return Err(Refusal::Draw { place });
             }
         }
+        Ok(Draw { file, bytes })
     }
-    x < y
-}
 
-// How many candidates are before x.
-fn number_before(header: Header, bytes: &[u8], draw: &[u8], x: usize) -> u8
-    requires { HeaderOf bytes.now header }
-    ensures { result ≡ number (λ y. decided unranked (drawn_ballots bytes.now draw.now) y x) header.candidates }
-{
-    let mut number = 0;
-    for y in 0..header.candidates {
-        if decides(header, bytes, draw, y, x) {
-            number += 1;
+    // Whether x is before y: by the first drawn ballot that does not put them equal, and by number where none does.
+    #[tactic(auto, using(crate::proofs::Deciding::drawn_steps))]
+    fn decides(&self, x: usize, y: usize) -> bool
+        ensures { result ≡ decided unranked (drawn_ballots self.now.file.bytes.now self.now.bytes.now) x y }
+    {
+        let (numbers, _) = self.bytes.as_chunks::<NUMBER_LENGTH>();
+        for number in numbers {
+            let number = usize::from(u16::from_le_bytes(*number));
+            if let Some(ballot) = self.file.get(number) {
+                if over(ballot, x, y) {
+                    return true;
+                }
+                if over(ballot, y, x) {
+                    return false;
+                }
+            }
+        }
+        x < y
+    }
+
+    // How many candidates are before x; 0 where x is no candidate.
+    fn key(&self, x: usize) -> u8
+        ensures { result ≡ cond (nat_lt x self.now.file.candidates) (number (λ y. decided unranked (drawn_ballots self.now.file.bytes.now self.now.bytes.now) y x) self.now.file.candidates) 0 }
+    {
+        let candidates = self.file.candidates;
+        if x >= candidates {
+            return 0;
+        }
+        (0..candidates).filter(|y| self.decides(*y, x)).count() as u8
+    }
+
+    // The tie-break order that the draw makes.
+    pub(crate) fn tie_break(&self) -> TieBreak
+        ensures { TieBreakOf self.now.file.bytes.now self.now.bytes.now result }
+    {
+        TieBreak {
+            keys: array::from_fn(|x| self.key(x)),
         }
     }
-    number
-}
-
-// The tie-break order that the draw makes: the key of a candidate is the number of those before it.
-pub(crate) fn tie_break(header: Header, bytes: &[u8], draw: &[u8]) -> TieBreak
-    requires { HeaderOf bytes.now header }
-    ensures { TieBreakOf bytes.now draw.now result }
-{
-    let mut keys = [0u8; MOST_CANDIDATES];
-    for x in 0..header.candidates {
-        keys[x] = number_before(header, bytes, draw, x);
-    }
-    TieBreak { keys }
 }

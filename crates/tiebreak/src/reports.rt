@@ -1,117 +1,87 @@
 // The text of an outcome.
-ghost use Rattle.std.specs.Prelude.{◌≡◌, ◌<◌, ◌≤◌, ◌++◌, IfOk, string_bytes, codes, OnOk, slice_index};
-ghost use Rattle.std.specs.List.{range_with_len, flat_map};
-ghost use Rattle.ballots.specs.Format.{most_candidates};
-ghost use Rattle.ballots.specs.Sets.{holds};
-ghost use Rattle.tiebreak.specs.Reports.{numbered, listed, number_at, ahead_line, ahead_lines, report_of};
+ghost use Rattle.std.specs.Prelude.{◌≡◌, ◌<◌, IfOk, Some, string_bytes};
+ghost use Rattle.std.specs.Fmt.{WritesOnOk};
+ghost use Rattle.tiebreak.specs.Reports.{number_at, best_line, ahead_lines, order_line, report_of};
 
 use crate::Outcome;
 use ballots::holds;
-use best::Order;
 use std::alloc::{AllocError, Global};
+use std::fmt;
 
-// Puts a word and a number behind the text.
-fn push_number(text: &mut String, heap: Global, word: &str, number: usize) -> Result<(), AllocError>
-    ensures { OnOk result (string_bytes text.new ≡ string_bytes text.old ++ numbered word.now number) }
-{
-    let piece = format!(in heap; "{word}{number}")?;
-    text.push_str(piece.as_str())
+// An outcome, and the strengths of its pairs row by row.
+#[derive(Clone, Copy)]
+struct Reported<'a> {
+    outcome: &'a Outcome,
+    strengths: &'a [u16],
 }
 
-// Puts the candidates of the set behind the text.
-fn push_set(text: &mut String, heap: Global, set: u32, candidates: usize) -> Result<(), AllocError>
-    ensures { OnOk result (string_bytes text.new ≡ string_bytes text.old ++ listed (holds set) candidates) }
-{
-    for x in 0..candidates {
-        if holds(set, x) {
-            push_number(text, heap, " ", x)?;
+#[tactic(auto, using(std::proofs::lemmas::Grind::common_steps, ballots::proofs::Products::rows_more))]
+impl Reported<'_> {
+    // The strength from x to y; 0 where the slice ends before it.
+    fn strength(&self, x: usize, y: usize) -> u16
+        requires { let v = self.now.outcome.now.order.candidates in (x < v) × (y < v) }
+        ensures { result ≡ number_at self.now.outcome.now.order.candidates self.now.strengths.now x y }
+    {
+        let at = x * self.outcome.order.candidates + y;
+        self.strengths.get(at).copied().unwrap_or(0)
+    }
+
+    // Writes how many ballots there are, and who is among the best.
+    fn write_best<W: fmt::Write>(&self, f: &mut fmt::Formatter<W>) -> fmt::Result
+        ensures { WritesOnOk W.write_str_gives f.old result (best_line self.now.outcome.now) f.new }
+    {
+        write!(f, "papers {} best", self.outcome.ballots)?;
+        for x in 0..self.outcome.order.candidates {
+            if holds(self.outcome.best, x) {
+                write!(f, " {x}")?;
+            }
         }
+        writeln!(f)
     }
-    Ok(())
+
+    // Writes a line for each pair whose first candidate is ahead of the second.
+    fn write_ahead<W: fmt::Write>(&self, f: &mut fmt::Formatter<W>) -> fmt::Result
+        ensures { let v = self.now.outcome.now.order.candidates in WritesOnOk W.write_str_gives f.old result (ahead_lines (number_at v self.now.strengths.now) v) f.new }
+    {
+        let candidates = self.outcome.order.candidates;
+        for x in 0..candidates {
+            for y in 0..candidates {
+                let there = self.strength(x, y);
+                let back = self.strength(y, x);
+                if there > back {
+                    writeln!(f, "ahead {x} {y} {there} {back}")?;
+                }
+            }
+        }
+        Ok(())
+    }
+
+    // Writes the full order.
+    fn write_order<W: fmt::Write>(&self, f: &mut fmt::Formatter<W>) -> fmt::Result
+        ensures { WritesOnOk W.write_str_gives f.old result (order_line self.now.outcome.now) f.new }
+    {
+        let order = &self.outcome.order;
+        write!(f, "order")?;
+        for place in &order.places[..order.candidates] {
+            write!(f, " {place}")?;
+        }
+        writeln!(f)
+    }
 }
 
-// The number for the pair x, y in a table of v candidates, row by row.
-fn number_at(v: usize, table: &[u16], x: usize, y: usize) -> u16
-    requires { (v ≤ most_candidates) × ((x < v) × (y < v)) }
-    ensures { result ≡ number_at v table.now x y }
-{
-    let at = x * v + y;
-    if at < table.len() { table[at] } else { 0 }
-}
+impl fmt::Display for Reported<'_> {
+    ghost output = { λ r. Some (report_of r.outcome.now r.strengths.now) };
 
-// Puts a line behind the text where x is ahead of y.
-fn push_pair(
-    text: &mut String,
-    heap: Global,
-    v: usize,
-    strengths: &[u16],
-    x: usize,
-    y: usize,
-) -> Result<(), AllocError>
-    requires { (v ≤ most_candidates) × ((x < v) × (y < v)) }
-    ensures { OnOk result (string_bytes text.new ≡ string_bytes text.old ++ ahead_line (number_at v strengths.now) x y) }
-{
-    let there = number_at(v, strengths, x, y);
-    let back = number_at(v, strengths, y, x);
-    if back >= there {
-        return Ok(());
+    fn fmt<W: fmt::Write>(&self, f: &mut fmt::Formatter<W>) -> fmt::Result {
+        self.write_best(f)?;
+        self.write_ahead(f)?;
+        self.write_order(f)
     }
-    push_number(text, heap, "ahead ", x)?;
-    push_number(text, heap, " ", y)?;
-    push_number(text, heap, " ", there as usize)?;
-    push_number(text, heap, " ", back as usize)?;
-    text.push_str("\n")?;
-    Ok(())
-}
-
-fn push_row(
-    text: &mut String,
-    heap: Global,
-    v: usize,
-    strengths: &[u16],
-    x: usize,
-) -> Result<(), AllocError>
-    requires { (v ≤ most_candidates) × (x < v) }
-    ensures { OnOk result (string_bytes text.new ≡ string_bytes text.old ++ flat_map (ahead_line (number_at v strengths.now) x) (range_with_len 0 v)) }
-{
-    for y in 0..v {
-        push_pair(text, heap, v, strengths, x, y)?;
-    }
-    Ok(())
-}
-
-fn push_rows(text: &mut String, heap: Global, v: usize, strengths: &[u16]) -> Result<(), AllocError>
-    requires { v ≤ most_candidates }
-    ensures { OnOk result (string_bytes text.new ≡ string_bytes text.old ++ ahead_lines (number_at v strengths.now) v) }
-{
-    for x in 0..v {
-        push_row(text, heap, v, strengths, x)?;
-    }
-    Ok(())
-}
-
-fn push_order(text: &mut String, heap: Global, order: &Order) -> Result<(), AllocError>
-    ensures { OnOk result (string_bytes text.new ≡ string_bytes text.old ++ flat_map (λ i. numbered (codes " ") (slice_index order.now.places i)) (range_with_len 0 order.now.candidates)) }
-{
-    for i in 0..order.candidates {
-        push_number(text, heap, " ", order.places[i] as usize)?;
-    }
-    Ok(())
 }
 
 // The report of an outcome, with the strengths of its pairs row by row.
 pub fn report(heap: Global, outcome: &Outcome, strengths: &[u16]) -> Result<String, AllocError>
     ensures { IfOk result (λ text. string_bytes text ≡ report_of outcome.now strengths.now) }
 {
-    let candidates = outcome.order.candidates;
-    let mut text = String::new(heap);
-    push_number(&mut text, heap, "papers ", outcome.ballots as usize)?;
-    text.push_str(" best")?;
-    push_set(&mut text, heap, outcome.best, candidates)?;
-    text.push_str("\n")?;
-    push_rows(&mut text, heap, candidates, strengths)?;
-    text.push_str("order")?;
-    push_order(&mut text, heap, &outcome.order)?;
-    text.push_str("\n")?;
-    Ok(text)
+    Reported { outcome, strengths }.to_string(heap)
 }

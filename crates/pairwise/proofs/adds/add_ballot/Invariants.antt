@@ -14,5 +14,5 @@ invariant-loop-x l =
 abbrev pub invariant-loop-y : goal.invariant-loop-y
 invariant-loop-y l =
     ((k : ℕ) → k < l.x * most_candidates → get_or l.counts k 0 ≡ get_or l.initial.counts k 0)
-    × ((y : ℕ) → y < l.y → cell l.counts l.x y ≡ cell l.initial.counts l.x y + cond (ltb l.key (get_or l.keys y 0)) 1 0)
+    × ((y : ℕ) → y < l.y → cell l.counts l.x y ≡ cell l.initial.counts l.x y + cond (ltb l.key (get_or l.other-items y 0)) 1 0)
     × ((k : ℕ) → l.x * most_candidates + l.y ≤ k → get_or l.counts k 0 ≡ get_or l.initial.counts k 0)

@@ -1,43 +1,65 @@
-use Rattle.std.proofs.Common.{ℕ, ◌+◌, ◌*◌, length, sym, refl, ap, ◌∙◌, inl, inr, arith}
-use Rattle.ballots.specs.Format.{most_candidates}
-use Rattle.ballots.proofs.Products.{row_ends}
-use Rattle.pairwise.specs.Grids.{cells, cell}
+use Rattle.std.proofs.Common.{◌≡◌, ◌+◌, ◌*◌, length, sym, ap, ◌∙◌, arith}
+use Rattle.std.proofs.lemmas.List.{length_push}
+use Rattle.ballots.specs.Format.{most_candidates, candidates_in, ballots_in}
+use Rattle.ballots.specs.Reading.{ballots_from, to_come}
+use Rattle.ballots.proofs.Files.{accepted}
+use Rattle.ballots.proofs.Reading.{next_is, none_left, ballot_long}
 use Rattle.pairwise.proofs.Cells.{zeros}
 use Rattle.pairwise.proofs.Preferences.{counted_none, counted_le, counted_more}
 use Rattle.pairwise.proofs.tallies.tally.Goals as goal
-use Rattle.pairwise.proofs.tallies.tally.Goals.{in-Some, in_default}
 
-pub loop-i-init : goal.loop-i-init
-loop-i-init c = (refl, λ x y h k. zeros cells (x * most_candidates + y) ∙ sym (counted_none c.in_ok-header.header.candidates x y))
+pub loop-ballot-init : goal.loop-ballot-init
+loop-ballot-init c = record {
+  few = omega arith;
+  left = ap to_come c.into_iter-ballot-iterator.ensures.into_iter_gives ∙ c.iter-ballots.ensures ∙ ap (λ bs. ballots_from bs 0) c.in_ok-file.ensures.bytes;
+  counts = λ x y h k. zeros (most_candidates * most_candidates) (x * most_candidates + y) ∙ sym (counted_none (candidates_in c.args.bytes.now) x y);
+}
 
 pub add_ballot-requires : goal.add_ballot-requires
 add_ballot-requires c =
+    let n = next_is c.args.bytes.now (length c.loop-ballot.yielded) c.in-Some.ballot.now (to_come c.next.new.self) (sym c.loop-ballot.invariant.left ∙ c.in-Some.ensures.steps) in
+    let long = ap length n.bytes ∙ ballot_long c.args.bytes.now (length c.loop-ballot.yielded) (accepted c.args.bytes.now c.in_ok-file.ensures.accepted).2 n.there in
     record {
-      whole = c.loop-i.invariant.0;
-      few = omega (arith, c.in-Some.ensures.long, c.in_ok-header.header.few);
+      few = omega (arith, long, c.in_ok-file.ensures.candidates);
       room = λ x y h k.
-          omega (arith, counted_le c.in_ok-header.header.candidates c.loop-i.i c.args.bytes.now c.loop-i.cells c.loop-i.invariant.1 x y h k);
+          omega (
+            arith,
+            n.there,
+            c.in_ok-file.ensures.ballots,
+            counted_le (candidates_in c.args.bytes.now) (length c.loop-ballot.yielded) c.args.bytes.now c.loop-ballot.cells c.loop-ballot.invariant.counts x y h k,
+          );
     }
 
-pub loop-i-preserved : goal.loop-i-preserved
-loop-i-preserved c =
-    let h = c.in_ok-header.ensures in
-    let v : ℕ = c.in_ok-header.header.candidates in
-    elim c.match-ballot.branch [
-      | in-Some w ↦
-          let b = w.in-Some.ensures in (
-            ap length w.cells-is ∙ omega arith,
-            counted_more v c.loop-i.i c.args.bytes.now c.loop-i.cells c.match-ballot.cells w.in-Some.ballot.now b.bytes b.long c.loop-i.invariant.1
-                (λ x y hx hy. ap (λ l. cell l x y) w.cells-is ∙ w.add_ballot.ensures x y hx hy),
-          )
-      | in_default w ↦ absurd (elim w.in_default.ensures [
-        | inl past ↦ omega arith
-        | inr short ↦ omega (arith, h.whole, h.candidates, h.ballots, row_ends c.loop-i.i c.in_ok-header.header.ballots v (omega arith))
-      ])
-    ]
+pub loop-ballot-preserved : goal.loop-ballot-preserved
+loop-ballot-preserved c =
+    let n = next_is c.args.bytes.now (length c.loop-ballot.yielded) c.in-Some.ballot.now (to_come c.next.new.self) (sym c.loop-ballot.invariant.left ∙ c.in-Some.ensures.steps) in
+    let long = ap length n.bytes ∙ ballot_long c.args.bytes.now (length c.loop-ballot.yielded) (accepted c.args.bytes.now c.in_ok-file.ensures.accepted).2 n.there in
+    let more = length_push c.loop-ballot.yielded c.in-Some.ballot in
+    record {
+      few = omega (arith, more, n.there);
+      left = rw more n.others;
+      counts = rw more (counted_more (candidates_in c.args.bytes.now) (length c.loop-ballot.yielded) c.args.bytes.now c.loop-ballot.cells c.add_ballot.new.counts
+          c.in-Some.ballot.now n.bytes long c.loop-ballot.invariant.counts c.add_ballot.ensures);
+    }
 
 pub invariant_of-result-2 : goal.invariant_of-result-2
-invariant_of-result-2 c =
+invariant_of-result-2 c = record {
+  bounded = λ x y h. omega (
+    arith,
+    c.in_ok-file.ensures.ballots,
+    c.loop-ballot.invariant.few,
+    counted_le (candidates_in c.args.bytes.now) (length c.loop-ballot.yielded) c.args.bytes.now c.loop-ballot.cells c.loop-ballot.invariant.counts x y h.0 h.1,
+  );
+}
+
+pub returns : goal.returns
+returns c =
+    let none = none_left c.args.bytes.now (length c.loop-ballot.yielded) (sym c.loop-ballot.invariant.left ∙ c.in-None.ensures.steps.0) in
+    let all : length c.loop-ballot.yielded ≡ ballots_in c.args.bytes.now = omega (arith, c.loop-ballot.invariant.few) in
+    let h = c.in_ok-file.ensures in
     record {
-      bounded = λ x y h. omega (arith, counted_le c.in_ok-header.header.candidates c.loop-i.i c.args.bytes.now c.loop-i.cells c.loop-i.invariant.1 x y h.0 h.1);
+      accepted = h.accepted;
+      ballots = h.ballots;
+      candidates = h.candidates;
+      counts = rw all at c.loop-ballot.invariant.counts;
     }

@@ -1,4 +1,5 @@
-use Rattle.std.proofs.Common.{ℕ, ◌≤◌, List, length, drop, Ok, ap, ◌∙◌, subst, arith}
+use Rattle.std.proofs.Common.{ℕ, ◌≤◌, List, length, drop, Ok, Bor, ap, ◌∙◌, subst, arith}
+use Rattle.ballots.specs.declared.file.BallotFile.{BallotFile}
 use Rattle.ballots.specs.Format.{unranked, candidates_in, ballots_of}
 use Rattle.pairwise.specs.declared.Pairwise.{Pairwise}
 use Rattle.pairwise.specs.Counts.{count}
@@ -8,7 +9,7 @@ use Rattle.best.proofs.Striking.{answers_independent}
 use Rattle.best.proofs.Tabled.{order_tabled}
 use Rattle.certificate.specs.Certified.{certify_refusal, certified, certificate_by}
 use Rattle.tiebreak.specs.declared.outcome.Outcome.{Outcome}
-use Rattle.tiebreak.specs.Draws.{draw_refusal, drawn_ballots, decided}
+use Rattle.tiebreak.specs.Draws.{drawn_ballots, decided, TieBreakOf}
 use Rattle.tiebreak.specs.Outcomes.{OutcomeOf}
 use Rattle.tiebreak.proofs.Counting.{said, trusted, leaves, through}
 use Rattle.tiebreak.proofs.counts.count.Goals as goal
@@ -17,14 +18,15 @@ pub returns : goal.returns
 returns c =
     let bs : List ℕ = c.args.bytes.now in
     let draw : List ℕ = c.args.draw.now in
-    let h = c.in_ok-header.ensures in
+    let h = c.in_ok-file.ensures in
     let answer = c.in_ok-certified.certified in
     let t : Pairwise = c.in_ok-pairwise.pairwise in
     let tie = c.tie_break.result in
+    let (drawn, from, of) = c.in_ok-draw.ensures in
+    let order : TieBreakOf c.in_ok-draw.draw.file.bytes.now c.in_ok-draw.draw.bytes.now tie = c.tie_break.ensures in
     let certifies = c.in_ok-certified.ensures.written in
-    let (drawn, _) = said (draw_refusal c.in_ok-header.header.ballots draw) tt tt c.in_ok-check_draw.ensures in
     let (room, is) = said (certify_refusal bs (length c.args.table.now) (length c.args.strengths.now) (length c.args.sheet.now)) (certified bs) answer certifies.answer in
-    let none = through bs draw c.in_ok-header.header.ballots (length c.args.table.now) (length c.args.strengths.now) (length c.args.sheet.now) h.ballots drawn room in
+    let none = through bs draw c.in_ok-file.file.ballots (length c.args.table.now) (length c.args.strengths.now) (length c.args.sheet.now) h.ballots drawn room in
     let b : BestOf bs answer.best = record { accepted = h.accepted; best = c.in_ok-certified.ensures.best } in
     let o : Outcome = record { ballots = answer.ballots; best = answer.best; order = c.full_order-order.result; length = answer.length } in
     let outcome : OutcomeOf bs draw o = record {
@@ -32,10 +34,10 @@ returns c =
       best = b;
       order = order_tabled bs t c.in_ok-pairwise.ensures (before_by tie.keys) (decided unranked (drawn_ballots bs draw)) c.full_order-order.result
           (subst (λ (p : Pairwise). OrderOf p (before_by tie.keys) c.full_order-order.result) c.of.ensures.same c.full_order-order.ensures)
-          c.tie_break.ensures.order;
+          (rw (ap (λ (f : BallotFile). f.bytes.now) from ∙ h.bytes, ap (λ (b : Bor (List ℕ)). b.now) of) at order).order;
       length_is = ap (λ k. k.length) is;
     } in
-    let some : 1 ≤ candidates_in bs = omega (arith, h.candidates, c.in_ok-header.header.some) in
+    let some : 1 ≤ candidates_in bs = omega (arith, h.candidates, c.in_ok-file.file.some) in
     let (clones, one) = answers_independent bs (Ok answer.best) b in
     record {
       outcome = (none, outcome);

@@ -1,7 +1,0 @@
-use Rattle.std.proofs.Common.{◌≡◌, ◌++◌, string_bytes}
-use Rattle.std.specs.List.{range_with_len, flat_map}
-use Rattle.tiebreak.specs.Reports.{number_at, ahead_line}
-use Rattle.tiebreak.proofs.reports.push_rows.Given as goal
-
-abbrev pub invariant-loop-x : goal.invariant-loop-x
-invariant-loop-x l = string_bytes l.text ≡ string_bytes l.initial.text ++ flat_map (λ x. flat_map (ahead_line (number_at l.v l.strengths) x) (range_with_len 0 l.v)) (range_with_len 0 l.x)
