@@ -1,28 +1,14 @@
--- The best by strengths, as a loop finds them, and by equal strengths.
-use Rattle.std.proofs.Common.{◌≡◌, ℕ, zero, suc, ◌+◌, ◌<◌, ◌≤◌, Bool, true, false, not, List, sym, refl, inl, inr, arith}
-use Rattle.std.proofs.lemmas.Bool.{cases_eq, lt-ltb, le-ltb, not_from_true, not_from_false}
-use Rattle.ballots.specs.Sets.{set_of, every}
-use Rattle.ballots.proofs.Everybody.{every_more, every_not, every_same}
+-- The best by strengths that agree.
+use Rattle.std.proofs.Common.{◌≡◌, ℕ, zero, suc, ◌<◌, Bool, true, not, List, sym, refl, inl, inr, arith}
+use Rattle.std.proofs.lemmas.Bool.{cases_eq, le-ltb}
+use Rattle.ballots.specs.Sets.{set_of}
+use Rattle.ballots.proofs.Everybody.{every_same}
 use Rattle.pairwise.specs.declared.grid.Grid.{Grid}
 use Rattle.pairwise.specs.Grids.{entry}
 use Rattle.best.specs.Compared.{ahead_by, unbeaten_by, best_by}
 use Rattle.certificate.specs.Reading.{claims_in}
 use Rattle.certificate.specs.Progress.{KeptAll}
 use Rattle.certificate.specs.Truth.{OfPairs}
-
-module _ (s : ℕ → ℕ → ℕ) (x : ℕ) where
-  -- nobody below n is ahead of x
-  abbrev pub unbeaten_so_far : ℕ → Bool
-  unbeaten_so_far n = every (λ y. not (ahead_by s y x)) n
-
-  pub unbeaten_more : (n : ℕ) → unbeaten_so_far n ≡ true → s n x ≤ s x n → unbeaten_so_far (n + 1) ≡ true
-  unbeaten_more n h l = every_more (λ y. not (ahead_by s y x)) n h (not_from_false (ahead_by s n x) (le-ltb (s x n) (s n x) l))
-
-  pub beaten : (v y : ℕ) → y < v → s x y < s y x → unbeaten_by s v (λ _. true) x ≡ false
-  beaten v y h l = every_not (λ y. not (ahead_by s y x)) v y h (not_from_true (ahead_by s y x) (lt-ltb (s x y) (s y x) l))
-
-  pub unbeaten_end : (v n : ℕ) → n ≡ v → unbeaten_so_far n ≡ true → unbeaten_by s v (λ _. true) x ≡ true
-  unbeaten_end v n e h = rw e at h
 
 -- tests that agree
 pub set_of_same : (f g : ℕ → Bool) (n : ℕ) → ((x : ℕ) → x < n → f x ≡ g x) → set_of f n ≡ set_of g n

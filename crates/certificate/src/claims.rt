@@ -33,6 +33,7 @@ pub(crate) fn is_path(table: &Pairwise, row: &[u8], x: usize, y: usize, strength
 }
 
 // Whether a is in the set and b is not, and a wins against b with more than the strength.
+#[tactic(auto, unfolding(crate::specs::Judge::crosses))]
 fn crosses(table: &Pairwise, set: u32, strength: u16, a: usize, b: usize) -> bool
     ensures { result ≡ crosses (win_in table.now) strength set a b }
 {

@@ -12,6 +12,7 @@ use ballots::{MOST_CANDIDATES, Refusal};
 use pairwise::{CELLS, Grid, Pairwise};
 
 // Reads the entry of the pair x, y, and answers the strength in it.
+#[tactic(auto, using(std::proofs::lemmas::Bool::Decides::nat_tests, crate::proofs::Places::place_next), unfolding(crate::specs::Judge::entry_demands))]
 fn check_entry(table: &Pairwise, reader: &mut Reader, x: usize, y: usize) -> Result<u16, Refusal>
     requires pair { (x < table.now.counts.candidates) × ((y < table.now.counts.candidates) × (x ≢ y)) }
     requires here { reader.old.at ≡ place table.now.counts.candidates reader.old.sheet.now x y }

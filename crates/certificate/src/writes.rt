@@ -72,6 +72,7 @@ fn write_entries(strengths: &Strengths, writer: &mut Writer)
 }
 
 // Writes the certificate to the front of the slice, and answers its length.
+#[tactic(auto, using(crate::proofs::Lengths::front_length, crate::proofs::Lengths::entries_fit))]
 pub(crate) fn write_certificate(strengths: &Strengths, best: u32, sheet: &mut [u8]) -> usize
     requires { longest strengths.now.pairwise.counts.candidates ≤ length sheet.old }
     ensures { Wrote (certificate_in strengths.now.pairwise best) 0 sheet.old sheet.new result }

@@ -8,9 +8,9 @@ pub returns-in_err-set : goal.returns-in_err-set
 unfolding best_demands
 returns-in_err-set c = grind (arith, nat_tests)
 
-pub returns-then-branch-unbeaten_set : goal.returns-then-branch-unbeaten_set
+pub returns-then-branch-best_by : goal.returns-then-branch-best_by
 unfolding best_demands
-returns-then-branch-unbeaten_set c = let k = kept_best _ _ _ c.requires.kept in grind (arith, nat_tests)
+returns-then-branch-best_by c = let k = kept_best _ _ _ c.requires.kept in grind (arith, nat_tests)
 
 pub returns : goal.returns
 unfolding best_demands
