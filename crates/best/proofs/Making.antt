@@ -1,13 +1,12 @@
 -- The full order, made place by place.
-use Rattle.std.proofs.Common.{◌≡◌, ℕ, zero, suc, ◌+◌, ◌<◌, ◌≤◌, Bool, true, false, not, ◌&&◌, eqb, List, [], ◌∷◌, ◌++◌, length, get_or, take, set, replicate, Option, sym, refl, ap, ◌∙◌, subst, inl, inr, append_assoc, add-one, arith, length-set, get_or-set_other, get_or-set_same, take-suc-set}
+use Rattle.std.proofs.Common.{◌≡◌, ℕ, zero, suc, ◌+◌, ◌<◌, ◌≤◌, Bool, true, false, not, ◌&&◌, eqb, List, [], ◌∷◌, ◌++◌, length, get_or, set, replicate, Option, sym, refl, ap, ◌∙◌, subst, inl, inr, append_assoc, arith, length-set, get_or-set_other, get_or-set_same}
 use lib.ListN.{length-replicate}
-use Rattle.std.proofs.lemmas.List.{append-nil}
+use Rattle.std.proofs.lemmas.List.{append-nil, length_push}
 use Rattle.std.proofs.lemmas.Bool.{cases_eq, cases_Bool, and_parts, and_from}
 use Rattle.std.proofs.lemmas.Bool.Decides.{nat_tests}
 use Rattle.ballots.specs.Format.{most_candidates}
 use Rattle.ballots.specs.Sets.{number}
 use Rattle.ballots.proofs.Everybody.{number_same, number_all, number_some, number_none}
-use Rattle.pairwise.proofs.Cells.{zeros}
 use Rattle.paths.specs.Paths.{below, strength}
 use Rattle.paths.proofs.Walks.{in_below, below_in}
 use Rattle.best.specs.Best.{Ahead}
@@ -67,21 +66,19 @@ marked_all (suc n) (suc y) l = marked_all n y (omega arith)
 -- i places of the full order are made: whatever orders those that are left completes it
 pub record Made (w : ℕ → ℕ → ℕ) (n : ℕ) (before : ℕ → ℕ → Bool) (i : ℕ) (left : List Bool) (places : List ℕ) : Type 0 where
   pub marks : length left ≡ most_candidates
-  pub room : length places ≡ most_candidates
+  pub long : length places ≡ i
   pub number_left : number (marked left) n + i ≡ n
   pub row : (xs : List ℕ) → FullOrder (Ahead w (below n)) before (standing n (marked left)) xs →
-      FullOrder (Ahead w (below n)) before (below n) (take i places ++ xs)
-  pub behind : (k : ℕ) → i ≤ k → get_or places k 0 ≡ 0
+      FullOrder (Ahead w (below n)) before (below n) (places ++ xs)
 
 module _ (w : ℕ → ℕ → ℕ) (n : ℕ) (before : ℕ → ℕ → Bool) (few : n ≤ most_candidates) where
-  pub made_none : Made w n before 0 (replicate most_candidates true) (replicate most_candidates 0)
+  pub made_none : Made w n before 0 (replicate most_candidates true) []
   made_none =
       record {
         marks = length-replicate most_candidates true;
-        room = length-replicate {A = ℕ} most_candidates 0;
+        long = refl;
         number_left = omega (arith, number_all (marked (replicate most_candidates true)) n (λ x l. marked_all most_candidates x (omega arith)));
         row = λ xs. full_same (Ahead w (below n)) before (standing n (marked (replicate most_candidates true))) (below n) xs all_stand;
-        behind = λ k _. zeros most_candidates k;
       }
     where
       all_stand : (z : ℕ) → standing n (marked (replicate most_candidates true)) z ≡ below n z
@@ -92,17 +89,16 @@ module _ (w : ℕ → ℕ → ℕ) (n : ℕ) (before : ℕ → ℕ → Bool) (fe
 
   pub made_more : (i x : ℕ) (left : List Bool) (places : List ℕ) → i < n → x < n →
       Next (Ahead w (below n)) before (standing n (marked left)) x → Made w n before i left places →
-      Made w n before (i + 1) (set left x false) (set places i x)
+      Made w n before (i + 1) (set left x false) (places ++ x ∷ [])
   made_more i x left places il xl h m =
       record {
         marks = length-set left x false ∙ m.marks;
-        room = length-set places i x ∙ m.room;
+        long = length_push places x ∙ ap (λ (k : ℕ). k + 1) m.long;
         number_left =
             let gone = number_same (marked (set left x false)) (without x (marked left)) n (λ z _. marked_gone left x z inside) in
             omega (arith, gone, number_without (marked left) n x xl (and_parts _ _ h.is_left).1, m.number_left);
         row = λ xs r.
-            rw (taken xs) (m.row (x ∷ xs) (h, full_same (Ahead w (below n)) before (standing n (marked (set left x false))) (without x (standing n (marked left))) xs still r));
-        behind = λ k l. get_or-set_other places i k x 0 (λ e. omega arith) ∙ m.behind k (omega arith);
+            rw (append_assoc places (x ∷ []) xs) (m.row (x ∷ xs) (h, full_same (Ahead w (below n)) before (standing n (marked (set left x false))) (without x (standing n (marked left))) xs still r));
       }
     where
       inside : x < length left
@@ -111,11 +107,8 @@ module _ (w : ℕ → ℕ → ℕ) (n : ℕ) (before : ℕ → ℕ → Bool) (fe
       still : (z : ℕ) → standing n (marked (set left x false)) z ≡ without x (standing n (marked left)) z
       still z = let e = marked_gone left x z inside in grind (arith, nat_tests)
 
-      taken : (xs : List ℕ) → take (i + 1) (set places i x) ++ xs ≡ take i places ++ (x ∷ xs)
-      taken xs = rw (add-one, take-suc-set places i x (omega (arith, m.room))) (append_assoc (take i places) (x ∷ []) xs)
-
   pub made_all : (left : List Bool) (places : List ℕ) → Made w n before n left places →
-      FullOrder (Ahead w (below n)) before (below n) (take n places)
+      FullOrder (Ahead w (below n)) before (below n) places
   made_all left places m =
       rw append-nil at (m.row [] (λ x s. let p = and_parts _ _ s in number_none (marked left) n x (omega (arith, m.number_left)) (below_in n x p.0) p.1))
 

@@ -1,5 +1,5 @@
 -- The best of a table are the best of the ballots that it has the counts of.
-use Rattle.std.proofs.Common.{◌≡◌, ℕ, ◌<◌, Bool, true, List, take, sym, ◌∙◌, subst, arith}
+use Rattle.std.proofs.Common.{◌≡◌, ℕ, ◌<◌, Bool, true, List, sym, ◌∙◌, subst, arith}
 use Rattle.std.proofs.lemmas.Bool.{lt-ltb}
 use Rattle.std.proofs.lemmas.Bool.Decides.{Decides-like}
 use Rattle.ballots.specs.Format.{unranked, candidates_in, ballots_of}
@@ -60,12 +60,11 @@ module _ (bs : List ℕ) (t : Pairwise) (h : PairwiseOf bs t) where
       let v = h.candidates in
       let same : (x y : ℕ) → below (candidates_in bs) x ≡ true → below (candidates_in bs) y ≡ true → win unranked (ballots_of bs) x y ≡ win_in t x y =
       λ x y hx hy. win_tabled x y (below_in _ x hx) (below_in _ y hy) in
-      let row : FullOrder (Ahead (win_in t) (below (candidates_in bs))) before (below (candidates_in bs)) (take (candidates_in bs) o.places) =
-      subst (λ (n : ℕ). FullOrder (Ahead (win_in t) (below n)) before (below n) (take n o.places)) v r.row in
+      let row : FullOrder (Ahead (win_in t) (below (candidates_in bs))) before (below (candidates_in bs)) o.places.items =
+      subst (λ (n : ℕ). FullOrder (Ahead (win_in t) (below n)) before (below n) o.places.items) v r.row in
       record {
         candidates = r.candidates ∙ v;
         row = full_like (Ahead (win_in t) (below (candidates_in bs))) (Ahead (win unranked (ballots_of bs)) (below (candidates_in bs))) before after
             (λ x y. ahead_rewin same) (λ x y. ahead_rewin (λ a c ha hc. sym (same a c ha hc)))
-            (below (candidates_in bs)) (take (candidates_in bs) o.places) (λ x y hx hy. e x y (below_in _ x hx) (below_in _ y hy)) row;
-        behind = λ i l. r.behind i (omega arith);
+            (below (candidates_in bs)) o.places.items (λ x y hx hy. e x y (below_in _ x hx) (below_in _ y hy)) row;
       }

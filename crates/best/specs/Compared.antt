@@ -1,5 +1,5 @@
 -- Who is ahead and who is among the best by comparing numbers, and the candidates' full order, as the program answers them. Assumes nothing.
-use Rattle.std.specs.Prelude.{◌≡◌, ℕ, zero, suc, ◌^◌, ◌<◌, ◌≤◌, Bool, true, cond, not, ◌&&◌, ◌||◌, List, take, Some, None, Decides, Option, ◌==◌, nat_lt, slice_index}
+use Rattle.std.specs.Prelude.{◌≡◌, ℕ, zero, suc, ◌^◌, ◌<◌, Bool, true, cond, not, ◌&&◌, ◌||◌, List, length, Some, None, Decides, Option, ◌==◌, nat_lt, slice_index}
 use Rattle.ballots.specs.Sets.{holds, set_of, every}
 use Rattle.pairwise.specs.declared.Pairwise.{Pairwise}
 use Rattle.pairwise.specs.Tables.{win_in}
@@ -44,11 +44,10 @@ first_below before f (suc n) = cond (f n) (Some (earlier before (first_below bef
 abbrev pub next_by : (ℕ → ℕ → ℕ) → ℕ → (ℕ → ℕ → Bool) → (ℕ → Bool) → Option ℕ
 next_by s n before left = first_below before (λ x. left x && unbeaten_by s n left x) n
 
--- the order is the full order of the candidates below n, and has nothing behind it
+-- the order is the full order of the candidates below n
 pub record OrderBy (w : ℕ → ℕ → ℕ) (n : ℕ) (before : ℕ → ℕ → Bool) (o : Order) : Type 0 where
-  pub candidates : o.candidates ≡ n
-  pub row : FullOrder (Ahead w (below n)) before (below n) (take n o.places)
-  pub behind : (i : ℕ) → n ≤ i → slice_index o.places i ≡ 0
+  pub candidates : length o.places.items ≡ n
+  pub row : FullOrder (Ahead w (below n)) before (below n) o.places.items
 
 -- the order is the full order of the candidates of a table
 abbrev pub OrderOf : Pairwise → (ℕ → ℕ → Bool) → Order → Type 0

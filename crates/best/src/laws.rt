@@ -6,127 +6,95 @@ ghost use Rattle.best.specs.Orders as Orders;
 ghost use Rattle.best.specs.Worked as Worked;
 
 // Ahead is what comparing strengths says.
-pub fn ahead_by_strength_holds() -> u8
+pub fn ahead_by_strength_holds()
     ensures { Laws.AheadByStrength }
-{
-    0
-}
+{}
 
 // Best is what comparing strengths says, and that nobody is ahead.
-pub fn best_by_strength_holds() -> u8
+pub fn best_by_strength_holds()
     ensures strengths { Laws.BestByStrength }
     ensures unbeaten { Laws.BestUnbeaten }
-{
-    0
-}
+{}
 
 // Whoever is ahead of one that is ahead of a third is ahead of the third, and nobody is ahead of itself.
-pub fn ahead_is_an_order_holds() -> u8
+pub fn ahead_is_an_order_holds()
     ensures any { Laws.AheadIsAnOrder }
     ensures ballots { Elections.AheadIsAnOrder }
-{
-    0
-}
+{}
 
 // Somebody is among the best.
-pub fn some_best_holds() -> u8
+pub fn some_best_holds()
     ensures any { Laws.SomeBest }
     ensures ballots { Elections.SomeBest }
-{
-    0
-}
+{}
 
 // A candidate that wins against every other one is the only best.
-pub fn condorcet_winner_holds() -> u8
+pub fn condorcet_winner_holds()
     ensures any { Laws.CondorcetWinner }
     ensures ballots { Elections.CondorcetWinner }
-{
-    0
-}
+{}
 
 // A candidate that loses against every other one is not among the best, unless it is alone.
-pub fn condorcet_loser_holds() -> u8
+pub fn condorcet_loser_holds()
     ensures any { Laws.CondorcetLoser }
     ensures ballots { Elections.CondorcetLoser }
-{
-    0
-}
+{}
 
 // If each candidate of a set that is not empty wins against each outside of it, all the best are in the set.
-pub fn dominating_set_holds() -> u8
+pub fn dominating_set_holds()
     ensures any { Laws.DominatingSet }
     ensures ballots { Elections.DominatingSet }
-{
-    0
-}
+{}
 
 // Where there is a ballot and every ballot puts x over y, x is ahead of y.
-pub fn pareto_holds() -> u8
+pub fn pareto_holds()
     ensures { Elections.Pareto }
-{
-    0
-}
+{}
 
 // Whoever is among the best and is raised, on one ballot or on many, is still among the best.
-pub fn monotonicity_holds() -> u8
+pub fn monotonicity_holds()
     ensures any { Laws.Monotonicity }
     ensures one { Elections.Monotonicity }
     ensures many { Elections.MonotonicityOfMany }
-{
-    0
-}
+{}
 
 // With all ballots reversed, whoever was ahead is behind.
-pub fn reversal_symmetry_holds() -> u8
+pub fn reversal_symmetry_holds()
     ensures any { Laws.ReversalSymmetry }
     ensures ballots { Elections.ReversalSymmetry }
-{
-    0
-}
+{}
 
 // Of a clone set, any may stand in place of any: who else is among the best does not change, nor whether one of them is.
-pub fn clone_exchange_holds() -> u8
+pub fn clone_exchange_holds()
     ensures any { Laws.CloneExchange }
     ensures ballots { Elections.CloneExchange }
-{
-    0
-}
+{}
 
 // Of a clone set, any single one may stand in place of all.
-pub fn clone_independence_holds() -> u8
+pub fn clone_independence_holds()
     ensures any { Laws.CloneIndependence }
     ensures ballots { Elections.CloneIndependence }
-{
-    0
-}
+{}
 
 // There is one full order; its first candidate is among the best, and whoever is ahead of another stands before it.
-pub fn full_order_holds() -> u8
+pub fn full_order_holds()
     ensures one { Orders.OneOrder }
     ensures first { Orders.FirstIsBest }
     ensures ahead { Orders.AheadStandsBefore }
-{
-    0
-}
+{}
 
 // No file has two answers.
-pub fn one_answer_holds() -> u8
+pub fn one_answer_holds()
     ensures { Answers.OneAnswer }
-{
-    0
-}
+{}
 
 // With some of a clone set struck, or all but one, the answer says the same of all others, and of the clone set.
-pub fn answers_are_clone_independent() -> u8
+pub fn answers_are_clone_independent()
     ensures independent { Answers.AnswersIndependent }
     ensures twice { Answers.CountsAgree }
-{
-    0
-}
+{}
 
 // The best and the strengths of the worked counts are those of the definitions.
-pub fn worked_counts_hold() -> u8
+pub fn worked_counts_hold()
     ensures { Worked.WorkedCounts }
-{
-    0
-}
+{}

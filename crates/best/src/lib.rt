@@ -7,7 +7,7 @@ pub mod laws;
 mod orders;
 mod ranking;
 
-pub use compares::{ahead, best};
+pub use compares::{ahead, best, best_by};
 pub use counts::{best_of, best_of_both};
 pub use orders::{TieBreak, full_order};
 pub use ranking::Order;

@@ -1,12 +1,14 @@
 // The full order of the candidates.
-ghost use Rattle.std.specs.Prelude.{◌≡◌, ◌<◌, false, length, replicate, slice_index, slice_index_or};
+ghost use Rattle.std.specs.Prelude.{◌≡◌, ◌<◌, false, replicate, slice_index, slice_index_or};
 ghost use Rattle.ballots.specs.Format.{most_candidates};
-ghost use Rattle.paths.specs.Strengths.{strength_in};
+ghost use Rattle.pairwise.specs.Grids.{entry};
 ghost use Rattle.best.specs.Compared.{before_by, earlier, next_by, OrderOf};
 
 use crate::Order;
 use crate::compares::unbeaten;
+use arrayvec::ArrayVec;
 use ballots::MOST_CANDIDATES;
+use pairwise::Grid;
 use paths::Strengths;
 
 // A tie-break order: the smaller key first, and equal keys by number. Whatever the keys are, of two candidates one is
@@ -29,16 +31,14 @@ impl TieBreak {
     fn key(&self, x: usize) -> u8
         ensures { result ≡ slice_index self.now.keys x }
     {
-        if x < MOST_CANDIDATES { self.keys[x] } else { 0 }
+        self.keys.get(x).copied().unwrap_or(0)
     }
 
     // Whether x is before y.
     pub fn before(&self, x: usize, y: usize) -> bool
         ensures { result ≡ before_by self.now.keys x y }
     {
-        let key_x = self.key(x);
-        let key_y = self.key(y);
-        key_x < key_y || key_x == key_y && x < y
+        (self.key(x), x) < (self.key(y), y)
     }
 
     fn earlier(&self, found: Option<usize>, x: usize) -> usize
@@ -52,16 +52,13 @@ impl TieBreak {
 }
 
 // Of the candidates that are left and of whom no left one is ahead, the first in the tie-break order.
-fn next(strengths: &Strengths, tie_break: &TieBreak, left: &[bool]) -> Option<usize>
-    requires { length left.now ≡ most_candidates }
-    ensures { result ≡ next_by (strength_in strengths.now.pairwise) strengths.now.pairwise.counts.candidates (before_by tie_break.now.keys) (λ y. slice_index_or left.now y false) }
+fn next(strengths: &Grid, tie_break: &TieBreak, left: &[bool; MOST_CANDIDATES]) -> Option<usize>
+    ensures { result ≡ next_by (entry strengths.now) strengths.now.candidates (before_by tie_break.now.keys) (λ y. slice_index_or left.now y false) }
 {
     let mut found: Option<usize> = None;
-    for x in 0..strengths.pairwise.counts.candidates {
-        if left[x] {
-            if unbeaten(strengths, left, x) {
-                found = Some(tie_break.earlier(found, x));
-            }
+    for x in 0..strengths.candidates {
+        if left[x] && unbeaten(strengths, left, x) {
+            found = Some(tie_break.earlier(found, x));
         }
     }
     found
@@ -72,14 +69,13 @@ fn next(strengths: &Strengths, tie_break: &TieBreak, left: &[bool]) -> Option<us
 pub fn full_order(strengths: &Strengths, tie_break: &TieBreak) -> Order
     ensures { OrderOf strengths.now.pairwise (before_by tie_break.now.keys) result }
 {
-    let candidates = strengths.pairwise.counts.candidates;
     let mut left = [true; MOST_CANDIDATES];
-    let mut places = [0u8; MOST_CANDIDATES];
-    for place in 0..candidates {
-        if let Some(x) = next(strengths, tie_break, &left) {
-            places[place] = x as u8;
+    let mut places = ArrayVec::new();
+    for _place in 0..strengths.pairwise.counts.candidates {
+        if let Some(x) = next(strengths.table(), tie_break, &left) {
+            places.push(x);
             left[x] = false;
         }
     }
-    Order { candidates, places }
+    Order { places }
 }

@@ -7,6 +7,20 @@ use tiebreak::{count, report};
 // Two candidates: a ballot that puts them equal, one for each of them.
 const EVEN: [u8; 9] = [2, 3, 0, 1, 1, 1, 2, 2, 1];
 
+// A count by its name, its file and its draw.
+const DRAWS: [(&str, &[u8], &[u8]); 10] = [
+    ("no draw, by number", &EVEN, &[]),
+    ("a draw for 0", &EVEN, &[1, 0]),
+    ("a draw for 1", &EVEN, &[2, 0]),
+    ("a draw that decides nothing", &EVEN, &[0, 0]),
+    ("the first that decides", &EVEN, &[0, 0, 2, 0, 1, 0]),
+    ("a draw against who is ahead", &CIRCLE, &[7, 0]),
+    ("a ballot that does not exist", &EVEN, &[0, 0, 3, 0]),
+    ("a ballot drawn twice", &EVEN, &[1, 0, 2, 0, 1, 0]),
+    ("half a number", &EVEN, &[1, 0, 9]),
+    ("bad ballots before a bad draw", &[2, 3, 0], &[1]),
+];
+
 fn print_count(rt: &HostRuntime, name: &str, bytes: &[u8], draw: &[u8]) -> anyhow::Result<()> {
     let mut table = [0u16; CELLS];
     let mut strengths = [0u16; CELLS];
@@ -17,19 +31,6 @@ fn print_count(rt: &HostRuntime, name: &str, bytes: &[u8], draw: &[u8]) -> anyho
         Err(refusal) => println!(rt; "{refusal}")?,
     }
     Ok(())
-}
-
-fn print_draws(rt: &HostRuntime) -> anyhow::Result<()> {
-    print_count(rt, "no draw, by number", &EVEN, &[])?;
-    print_count(rt, "a draw for 0", &EVEN, &[1, 0])?;
-    print_count(rt, "a draw for 1", &EVEN, &[2, 0])?;
-    print_count(rt, "a draw that decides nothing", &EVEN, &[0, 0])?;
-    print_count(rt, "the first that decides", &EVEN, &[0, 0, 2, 0, 1, 0])?;
-    print_count(rt, "a draw against who is ahead", &CIRCLE, &[7, 0])?;
-    print_count(rt, "a ballot that does not exist", &EVEN, &[0, 0, 3, 0])?;
-    print_count(rt, "a ballot drawn twice", &EVEN, &[1, 0, 2, 0, 1, 0])?;
-    print_count(rt, "half a number", &EVEN, &[1, 0, 9])?;
-    print_count(rt, "bad ballots before a bad draw", &[2, 3, 0], &[1])
 }
 
 // Lent slices that are one too short: all three stay as they were.
@@ -44,16 +45,8 @@ fn print_short(
     let mut strengths = vec![in heap; 7u16; strengths]?;
     let mut sheet = vec![in heap; 7u8; sheet]?;
     let answer = count(&EVEN, &[], &mut table, &mut strengths, &mut sheet);
-    let mut changed = false;
-    for n in table.iter() {
-        changed = changed || *n != 7;
-    }
-    for n in strengths.iter() {
-        changed = changed || *n != 7;
-    }
-    for n in sheet.iter() {
-        changed = changed || *n != 7;
-    }
+    let changed = table.iter().chain(strengths.iter()).any(|n| *n != 7)
+        || sheet.iter().any(|n| *n != 7);
     match answer {
         Ok(outcome) => {
             let length = outcome.length;
@@ -65,7 +58,9 @@ fn print_short(
 }
 
 pub fn all(rt: &HostRuntime) -> anyhow::Result<()> {
-    print_draws(rt)?;
+    for (name, bytes, draw) in DRAWS {
+        print_count(rt, name, bytes, draw)?;
+    }
     print_short(rt, 3, 4, 31)?;
     print_short(rt, 4, 3, 31)?;
     print_short(rt, 4, 4, 30)?;

@@ -7,7 +7,7 @@ mod lots;
 mod running;
 mod sheets;
 
-// 4 × (1 2 3), 3 × (3 1 2), 2 × (2 3 1)
+// 4 × (1 2 3), 3 × (3 1 2), 2 × (2 3 1). It stands in trials too: a library for one file of ballots is no plainer.
 const CIRCLE: [u8; 30] = [
     3, 9, 0, 1, 2, 3, 1, 2, 3, 1, 2, 3, 1, 2, 3, 3, 1, 2, 3, 1, 2, 3, 1, 2, 2, 3, 1, 2, 3, 1,
 ];

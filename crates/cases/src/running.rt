@@ -26,11 +26,9 @@ pub fn all(rt: &HostRuntime) -> anyhow::Result<()> {
     print_refused(rt, "no candidates", 0)?;
     print_refused(rt, "30 candidates", 30)?;
     print_refused(rt, "31 candidates", 31)?;
-    let Ok(mut count) = Provisional::new(3) else {
-        return Err(anyhow!("three candidates are refused"));
-    };
-    for i in 0..9usize {
-        add(rt, &mut count, &CIRCLE[3 + 3 * i..6 + 3 * i])?;
+    let mut count = Provisional::new(3).map_err(|refusal| anyhow!("{refusal}"))?;
+    for ballot in CIRCLE[3..].chunks(3) {
+        add(rt, &mut count, ballot)?;
     }
     add(rt, &mut count, &[1, 2])?;
     add(rt, &mut count, &[1, 2, 3, 4])

@@ -5,186 +5,44 @@ use certificate::{LONGEST, certify, check};
 use pairwise::CELLS;
 use std::alloc::{AllocError, Global};
 
-// A byte of the circle's certificate, and what is put in its place. The entries of the circle, 0 over 1 with 6, 1 over 2
-// with 7, 2 over 0 with 5, start at 19, 28, 38, 48, 57 and 66: two bytes of strength, the count of the path, the path, the cut.
-#[derive(Clone, Copy)]
-struct Damage<'a> {
-    name: &'a str,
-    at: usize,
-    byte: u8,
-}
-
-const DAMAGES: [Damage<'static>; 34] = [
-    Damage {
-        name: "other v",
-        at: 0,
-        byte: 4,
-    },
-    Damage {
-        name: "first byte of the table",
-        at: 1,
-        byte: 1,
-    },
-    Damage {
-        name: "last byte of the table",
-        at: 18,
-        byte: 1,
-    },
-    Damage {
-        name: "first path starts elsewhere",
-        at: 22,
-        byte: 2,
-    },
-    Damage {
-        name: "last path starts elsewhere",
-        at: 69,
-        byte: 1,
-    },
-    Damage {
-        name: "first path ends elsewhere",
-        at: 23,
-        byte: 0,
-    },
-    Damage {
-        name: "last path ends elsewhere",
-        at: 71,
-        byte: 2,
-    },
-    Damage {
-        name: "first path with a step that is no win",
-        at: 23,
-        byte: 2,
-    },
-    Damage {
-        name: "last path with a step that is no win",
-        at: 70,
-        byte: 2,
-    },
-    Damage {
-        name: "first path with a candidate from v on",
-        at: 23,
-        byte: 3,
-    },
-    Damage {
-        name: "last path with a candidate from v on",
-        at: 70,
-        byte: 255,
-    },
-    Damage {
-        name: "first path of one candidate",
-        at: 21,
-        byte: 1,
-    },
-    Damage {
-        name: "last path of one candidate",
-        at: 68,
-        byte: 1,
-    },
-    Damage {
-        name: "first strength too high",
-        at: 19,
-        byte: 7,
-    },
-    Damage {
-        name: "last strength too high",
-        at: 66,
-        byte: 6,
-    },
-    Damage {
-        name: "first strength too low",
-        at: 19,
-        byte: 5,
-    },
-    Damage {
-        name: "last strength too low",
-        at: 66,
-        byte: 4,
-    },
-    Damage {
-        name: "first strength's high byte",
-        at: 20,
-        byte: 1,
-    },
-    Damage {
-        name: "last strength's high byte",
-        at: 67,
-        byte: 1,
-    },
-    Damage {
-        name: "first cut without x",
-        at: 24,
-        byte: 4,
-    },
-    Damage {
-        name: "last cut without x",
-        at: 72,
-        byte: 1,
-    },
-    Damage {
-        name: "first cut with y",
-        at: 24,
-        byte: 3,
-    },
-    Damage {
-        name: "last cut with y",
-        at: 72,
-        byte: 6,
-    },
-    Damage {
-        name: "first cut with bit v",
-        at: 24,
-        byte: 9,
-    },
-    Damage {
-        name: "last cut with bit v",
-        at: 72,
-        byte: 12,
-    },
-    Damage {
-        name: "first cut with a last bit",
-        at: 27,
-        byte: 128,
-    },
-    Damage {
-        name: "second cut with too strong a win across",
-        at: 34,
-        byte: 3,
-    },
-    Damage {
-        name: "last cut with too strong a win across",
-        at: 72,
-        byte: 5,
-    },
-    Damage {
-        name: "best with one more",
-        at: 76,
-        byte: 3,
-    },
-    Damage {
-        name: "best with one fewer",
-        at: 76,
-        byte: 0,
-    },
-    Damage {
-        name: "best with bit v",
-        at: 76,
-        byte: 9,
-    },
-    Damage {
-        name: "best with a last bit",
-        at: 79,
-        byte: 128,
-    },
-    Damage {
-        name: "first cut, another one",
-        at: 24,
-        byte: 5,
-    },
-    Damage {
-        name: "nothing changed",
-        at: 0,
-        byte: 3,
-    },
+// A damage by its name, a place in the circle's certificate, and the byte that is put there. The entries of the circle, 0 over
+// 1 with 6, 1 over 2 with 7, 2 over 0 with 5, start at 19, 28, 38, 48, 57 and 66: two bytes of strength, the count of the path,
+// the path, the cut.
+const DAMAGES: [(&str, usize, u8); 34] = [
+    ("other v", 0, 4),
+    ("first byte of the table", 1, 1),
+    ("last byte of the table", 18, 1),
+    ("first path starts elsewhere", 22, 2),
+    ("last path starts elsewhere", 69, 1),
+    ("first path ends elsewhere", 23, 0),
+    ("last path ends elsewhere", 71, 2),
+    ("first path with a step that is no win", 23, 2),
+    ("last path with a step that is no win", 70, 2),
+    ("first path with a candidate from v on", 23, 3),
+    ("last path with a candidate from v on", 70, 255),
+    ("first path of one candidate", 21, 1),
+    ("last path of one candidate", 68, 1),
+    ("first strength too high", 19, 7),
+    ("last strength too high", 66, 6),
+    ("first strength too low", 19, 5),
+    ("last strength too low", 66, 4),
+    ("first strength's high byte", 20, 1),
+    ("last strength's high byte", 67, 1),
+    ("first cut without x", 24, 4),
+    ("last cut without x", 72, 1),
+    ("first cut with y", 24, 3),
+    ("last cut with y", 72, 6),
+    ("first cut with bit v", 24, 9),
+    ("last cut with bit v", 72, 12),
+    ("first cut with a last bit", 27, 128),
+    ("second cut with too strong a win across", 34, 3),
+    ("last cut with too strong a win across", 72, 5),
+    ("best with one more", 76, 3),
+    ("best with one fewer", 76, 0),
+    ("best with bit v", 76, 9),
+    ("best with a last bit", 79, 128),
+    ("first cut, another one", 24, 5),
+    ("nothing changed", 0, 3),
 ];
 
 fn print_verdict(rt: &HostRuntime, name: &str, sheet: &[u8]) -> anyhow::Result<()> {
@@ -200,22 +58,20 @@ fn certificate(heap: Global) -> anyhow::Result<Vec<u8>> {
     let mut table = [0u16; CELLS];
     let mut strengths = [0u16; CELLS];
     let mut sheet = vec![in heap; 0u8; LONGEST]?;
-    match certify(&CIRCLE, &mut table, &mut strengths, &mut sheet) {
-        Ok(certified) => {
-            sheet.truncate(certified.length);
-            Ok(sheet)
-        }
-        Err(_) => Err(anyhow!("the circle is refused")),
-    }
+    let certified = certify(&CIRCLE, &mut table, &mut strengths, &mut sheet).map_err(
+        |refusal| anyhow!("{refusal}"),
+    )?;
+    sheet.truncate(certified.length);
+    Ok(sheet)
 }
 
 fn print_damages(rt: &HostRuntime, sheet: &[u8]) -> anyhow::Result<()> {
-    for damage in &DAMAGES {
+    for (name, at, byte) in DAMAGES {
         let mut damaged = sheet.to_vec(rt.alloc())?;
-        if damage.at < damaged.len() {
-            damaged[damage.at] = damage.byte;
+        if let Some(place) = damaged.get_mut(at) {
+            *place = byte;
         }
-        print_verdict(rt, damage.name, &damaged)?;
+        print_verdict(rt, name, &damaged)?;
     }
     Ok(())
 }
@@ -223,9 +79,9 @@ fn print_damages(rt: &HostRuntime, sheet: &[u8]) -> anyhow::Result<()> {
 // Cut short before, in and behind each part.
 fn print_cuts(rt: &HostRuntime, sheet: &[u8]) -> anyhow::Result<()> {
     for end in [0, 1, 18, 20, 21, 22, 26, 67, 68, 70, 74, 78, 80usize] {
-        if end <= sheet.len() {
+        if let Some(cut) = sheet.get(0..end) {
             print!(rt; "{end} bytes ")?;
-            print_verdict(rt, "of the sheet", &sheet[0..end])?;
+            print_verdict(rt, "of the sheet", cut)?;
         }
     }
     Ok(())

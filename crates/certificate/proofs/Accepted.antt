@@ -10,10 +10,10 @@ abbrev pub Met : List Demand → Type 0
 Met ds = unmet ds ≡ None
 
 -- one demand more
-pub met_first : (d : Demand) (ds : List Demand) → Met (d ∷ ds) → (d.0 ≡ true) × Met ds
-met_first d ds h = elim (cases_Bool d.0) [ inl t ↦ (t, rw t at h) | inr t ↦ grind arith ]
+pub met_first : (d : Demand) (ds : List Demand) → Met (d ∷ ds) → (d.met ≡ true) × Met ds
+met_first d ds h = elim (cases_Bool d.met) [ inl t ↦ (t, rw t at h) | inr t ↦ grind arith ]
 
-pub met_more : (d : Demand) (ds : List Demand) → d.0 ≡ true → Met ds → Met (d ∷ ds)
+pub met_more : (d : Demand) (ds : List Demand) → d.met ≡ true → Met ds → Met (d ∷ ds)
 met_more d ds t h = rw t h
 
 -- demands behind others

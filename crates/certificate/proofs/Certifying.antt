@@ -23,7 +23,7 @@ use Rattle.certificate.specs.declared.Certified.{Certified}
 use Rattle.certificate.specs.Judge.{judge}
 use Rattle.certificate.specs.Certified.{certificate_by, strengths_by, longest, room_refusal, certify_refusal, certified, Certifies}
 use Rattle.certificate.specs.Parts.{certificate_in}
-use Rattle.certificate.proofs.Arrivals.{answered_ok}
+use Rattle.certificate.proofs.Moves.{answered_ok}
 use Rattle.certificate.proofs.Certificates.{certificate_accepted, strengths_agreed, best_same_by, certificate_agreed}
 
 -- all slices have room

@@ -1,31 +1,27 @@
 -- The strengths that the checker keeps, one pair after the other.
-use Rattle.std.proofs.Common.{◌≡◌, ℕ, ◌+◌, ◌*◌, ◌<◌, ◌≤◌, ◌⊎◌, List, length, set, ◌∙◌, inl, inr, arith}
+use Rattle.std.proofs.Common.{◌≡◌, ℕ, ◌+◌, ◌*◌, ◌<◌, ◌≤◌, ◌≢◌, ◌⊎◌, List, length, set, sym, refl, ◌∙◌, subst, inl, inr, arith}
 use Rattle.std.proofs.lemmas.List.{get_or-set_same, get_or-set_other}
-use Rattle.std.proofs.lemmas.Bool.{cases_eq}
+use Rattle.std.proofs.lemmas.Bool.{cases_eq, ne_eqb, lt-ltb}
 use Rattle.ballots.specs.Format.{most_candidates}
-use Rattle.pairwise.specs.Grids.{cells}
+use Rattle.pairwise.specs.declared.grid.Grid.{Grid}
+use Rattle.pairwise.specs.Grids.{cells, entry}
 use Rattle.certificate.specs.Reading.{claims_in}
-use Rattle.certificate.specs.Progress.{Kept}
+use Rattle.certificate.specs.Progress.{claimed, Kept, KeptAll}
 
 module _ (v : ℕ) (sheet : List ℕ) where
-  pub kept_none : (cs : List ℕ) → Kept v sheet 0 0 cs
-  kept_none cs a b o l ne = absurd (let f : ⊥ = grind arith in f)
-
-  pub kept_same : (x y : ℕ) (cs : List ℕ) → x ≡ y → Kept v sheet x y cs → Kept v sheet x (y + 1) cs
-  kept_same x y cs e k a b o l ne = k a b (grind arith) l ne
-
   pub kept_row : (x y : ℕ) (cs : List ℕ) → y ≡ v → Kept v sheet x y cs → Kept v sheet (x + 1) 0 cs
   kept_row x y cs e k a b o l ne = k a b (grind arith) l ne
 
   pub kept_next :
-      (x y s : ℕ) (cs : List ℕ) → v ≤ most_candidates → x < v → y < v → length cs ≡ cells → s ≡ (claims_in v sheet).strength x y →
+      (x y s : ℕ) (cs : List ℕ) → v ≤ most_candidates → x < v → y < v → length cs ≡ cells → s ≡ claimed v sheet x y →
       Kept v sheet x y cs → Kept v sheet x (y + 1) (set cs (x * most_candidates + y) s)
   kept_next x y s cs few lx ly size is k a b o l ne = elim (cases_eq (a * most_candidates + b) (x * most_candidates + y)) [
     | inl z ↦
         let p : a ≡ x = omega arith in
         let q : b ≡ y = omega arith in
         let n : x * most_candidates + y < length cs = omega arith in
-        rw (p, q) (get_or-set_same cs (x * most_candidates + y) s 0 n ∙ is)
+        let d : x ≢ y = λ e. ne (p ∙ (e ∙ sym q)) in
+        rw (p, q) (get_or-set_same cs (x * most_candidates + y) s 0 n ∙ (is ∙ rw (ne_eqb x y d)))
     | inr z ↦ get_or-set_other cs (x * most_candidates + y) (a * most_candidates + b) s 0 z ∙ k a b (before a b o l z) l ne
   ]
     where
@@ -33,3 +29,18 @@ module _ (v : ℕ) (sheet : List ℕ) where
           (a b : ℕ) → (a < x) ⊎ ((a ≡ x) × (b < y + 1)) → b < v → (a * most_candidates + b ≡ x * most_candidates + y → ⊥) →
           (a < x) ⊎ ((a ≡ x) × (b < y))
       before a b o l z = grind arith
+
+  pub kept_all : (x : ℕ) (g : Grid) → g.candidates ≡ v → x ≡ v → Kept v sheet x 0 g.cells → KeptAll v sheet g
+  kept_all x g e l k =
+      record {
+        candidates = e;
+        all = λ a b la lb ne. rw (e, lt-ltb a v la, lt-ltb b v lb) (k a b (inl (omega arith)) lb ne);
+      }
+
+-- the strengths of a certificate that is the same are kept still
+pub kept_still : (v : ℕ) (sheet sheet' : List ℕ) (g : Grid) → sheet' ≡ sheet → KeptAll v sheet g → KeptAll g.candidates sheet' g
+kept_still v sheet sheet' g e k =
+    record {
+      candidates = refl;
+      all = subst (λ u. (x y : ℕ) → x < u → y < u → x ≢ y → entry g x y ≡ (claims_in u sheet').strength x y) (sym k.candidates) (rw e k.all);
+    }

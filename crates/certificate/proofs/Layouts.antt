@@ -7,7 +7,7 @@ use Rattle.ballots.specs.declared.refusal.Refusal.TheVariants as refuse
 use Rattle.pairwise.specs.Counts.{win_by}
 use Rattle.certificate.specs.Layout.{two_bytes, four_bytes, entry_bytes, claim_bytes, all_pairs, table_bytes, certificate_of}
 use Rattle.certificate.specs.Reading.{two_at, four_at, count_at, cut_place, place, best_place, claims_in}
-use Rattle.certificate.specs.Judge.{stands, reaches, claim_demands, best_demands, demands}
+use Rattle.certificate.specs.Judge.{demand, stands, reaches, claim_demands, best_demands, demands}
 use Rattle.certificate.proofs.Accepted.{Met, met_first, met_parts, met_pair}
 use Rattle.certificate.proofs.Demanded.{entry_met, best_met}
 use Rattle.certificate.proofs.Fronts.{table_length}
@@ -18,8 +18,8 @@ use Rattle.certificate.proofs.Places.{place_first, place_same, place_next, place
 stands_first : (sheet : List ℕ) (p b : ℕ) (bs : List ℕ) → Met (stands sheet p (b ∷ bs)) →
     (p < length sheet) × (get_or sheet p 0 ≡ b) × Met (stands sheet (p + 1) bs)
 stands_first sheet p b bs h =
-    let k = met_first (reaches sheet (p + 1)) ((eqb (get_or sheet p 0) b, refuse.Table p) ∷ stands sheet (p + 1) bs) h in
-    let m = met_first (eqb (get_or sheet p 0) b, refuse.Table p) (stands sheet (p + 1) bs) k.1 in
+    let k = met_first (reaches sheet (p + 1)) ((demand (eqb (get_or sheet p 0) b) (refuse.Table p)) ∷ stands sheet (p + 1) bs) h in
+    let m = met_first (demand (eqb (get_or sheet p 0) b) (refuse.Table p)) (stands sheet (p + 1) bs) k.1 in
     (omega (arith, leb-true (p + 1) (length sheet) k.0), eqb-true (get_or sheet p 0) b m.0, m.1)
 
 stands_here : (sheet : List ℕ) (p : ℕ) (bs : List ℕ) → Met (stands sheet p bs) → drop p sheet ≡ bs ++ drop (p + length bs) sheet

@@ -7,17 +7,17 @@ use Rattle.pairwise.specs.Grids.{entry}
 use Rattle.pairwise.specs.Tables.{win_in}
 use Rattle.paths.specs.Paths.{below, strength}
 use Rattle.paths.specs.Rows.{row}
-use Rattle.paths.specs.Found.{Wrote}
 use Rattle.paths.proofs.Walks.{in_below, below_in}
 use Rattle.paths.proofs.Pairs.{pair_two, strength_is, strength_pair}
 use Rattle.paths.proofs.Rows.{path_shown}
-use Rattle.paths.proofs.Written.{wrote_both}
+use Rattle.certificate.specs.declared.writes.Writer.{Writer}
 use Rattle.certificate.specs.Layout.{four_bytes, claim_bytes, all_pairs, certificate_of}
 use Rattle.certificate.specs.Reading.{table_end}
 use Rattle.certificate.specs.Certified.{found, longest}
 use Rattle.certificate.specs.Parts.{front_bytes, entries_bytes, certificate_in}
+use Rattle.certificate.specs.Progress.{Put}
 use Rattle.certificate.proofs.Fronts.{table_length}
-use Rattle.certificate.proofs.Writing.{claim_none, claim_length}
+use Rattle.certificate.proofs.Writing.{put_both, claim_none, claim_length}
 
 -- n parts of at most k bytes, and with one of them empty
 module _ (g : ℕ → List ℕ) (k top : ℕ) (each : (i : ℕ) → i < top → length (g i) ≤ k) where
@@ -76,10 +76,10 @@ entries_fit t = omega (arith, entries_most (win_in t) t.counts.candidates)
 
 -- the certificate in three parts
 pub wrote_certificate :
-    (t : Pairwise) (best : ℕ) {p q r : ℕ} {S₀ S₁ S₂ S₃ : List ℕ} → longest t.counts.candidates ≤ length S₀ →
-    Wrote (front_bytes t) 0 S₀ S₁ p → Wrote (entries_bytes t) p S₁ S₂ q → Wrote (four_bytes best) q S₂ S₃ r → Wrote (certificate_in t best) 0 S₀ S₃ r
+    (t : Pairwise) (best : ℕ) {w₀ w₁ w₂ w₃ : Writer} → longest t.counts.candidates ≤ length w₀.sheet.now → w₀.at ≡ 0 →
+    Put (front_bytes t) w₀ w₁ → Put (entries_bytes t) w₁ w₂ → Put (four_bytes best) w₂ w₃ → Put (certificate_in t best) w₀ w₃
 unfolding certificate_of
-wrote_certificate t best room a b c =
+wrote_certificate t best room start a b c =
     let front : List ℕ = front_bytes t in
     let entries : List ℕ = entries_bytes t in
     let n = front_length t in
@@ -87,4 +87,4 @@ wrote_certificate t best room a b c =
     let e : front ++ (entries ++ four_bytes best) ≡ front ++ entries ++ four_bytes best = sym (append_assoc front entries (four_bytes best)) in
     let k = length-append front entries in
     let l = length-append (front ++ entries) (four_bytes best) in
-    wrote_both e (omega (arith, ap length e)) (wrote_both refl (omega arith) a b) c
+    put_both e (omega (arith, ap length e)) (put_both refl (omega arith) a b) c

@@ -1,7 +1,9 @@
+pub mod Every
+pub mod Pairs
 pub mod Follow
 pub mod Crossing
 pub mod Accepted
-pub mod Arrivals
+pub mod Moves
 pub mod Unbeaten
 pub mod Fronts
 pub mod Places

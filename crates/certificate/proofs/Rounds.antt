@@ -7,13 +7,16 @@ use Rattle.std.proofs.lemmas.Bool.{cases_eq, eq-eqb, ne_eqb, le-leb}
 use Rattle.ballots.specs.declared.refusal.Refusal.TheVariants as refuse
 use Rattle.certificate.specs.Layout.{two_bytes, four_bytes, Claims, entry_bytes, claim_bytes, all_pairs, table_bytes, certificate_of}
 use Rattle.certificate.specs.Reading.{two_at, four_at, count_at, cut_place, place, best_place}
-use Rattle.certificate.specs.Judge.{reaches, stands}
+use Rattle.certificate.specs.Judge.{demand, reaches, stands}
 use Rattle.certificate.specs.Truth.{OfPairs}
-use Rattle.certificate.proofs.Arrivals.{counting_first}
 use Rattle.certificate.proofs.Accepted.{Met, met_more}
 use Rattle.certificate.proofs.Digits.{two_back, four_back}
 use Rattle.certificate.proofs.Fronts.{table_length}
 use Rattle.certificate.proofs.Places.{place_first, place_same, place_next, place_row}
+
+-- the first of n - i numbers from i on
+counting_first : (n i : ℕ) → i < n → range_with_len i (n - i) ≡ i ∷ range_with_len (i + 1) (n - (i + 1))
+counting_first n i h = let e : n - i ≡ suc (n - (i + 1)) = omega arith in rw e
 
 module _ (sheet : List ℕ) where
   -- bytes that are there from p on, and what follows them
@@ -32,9 +35,9 @@ module _ (sheet : List ℕ) where
   stands_there : (p : ℕ) (bs rest : List ℕ) → drop p sheet ≡ bs ++ rest → Met (stands sheet p bs)
   stands_there p [] rest h = refl
   stands_there p (b ∷ bs) rest h =
-      met_more (reaches sheet (p + 1)) ((eqb (get_or sheet p 0) b, refuse.Table p) ∷ stands sheet (p + 1) bs)
+      met_more (reaches sheet (p + 1)) ((demand (eqb (get_or sheet p 0) b) (refuse.Table p)) ∷ stands sheet (p + 1) bs)
       (le-leb (p + 1) (length sheet) (omega (arith, long_there p b bs rest h)))
-      (met_more (eqb (get_or sheet p 0) b, refuse.Table p) (stands sheet (p + 1) bs) (eq-eqb (get_or sheet p 0) b (first_there p ((b ∷ bs) ++ rest) h))
+      (met_more (demand (eqb (get_or sheet p 0) b) (refuse.Table p)) (stands sheet (p + 1) bs) (eq-eqb (get_or sheet p 0) b (first_there p ((b ∷ bs) ++ rest) h))
       (stands_there (p + 1) bs rest (next p (b ∷ []) (bs ++ rest) h)))
 
   two_there : (p s : ℕ) (rest : List ℕ) → s < 65536 → drop p sheet ≡ two_bytes s ++ rest → two_at sheet p ≡ s

@@ -3,10 +3,11 @@ use Rattle.std.proofs.Common.{◌≡◌, ℕ, zero, suc, ◌+◌, ◌<◌, ◌�
 use Rattle.std.proofs.lemmas.Bool.{cases_eq, lt-ltb, le-ltb, not_from_true, not_from_false}
 use Rattle.ballots.specs.Sets.{set_of, every}
 use Rattle.ballots.proofs.Everybody.{every_more, every_not, every_same}
-use Rattle.pairwise.specs.Grids.{cell}
+use Rattle.pairwise.specs.declared.grid.Grid.{Grid}
+use Rattle.pairwise.specs.Grids.{entry}
 use Rattle.best.specs.Compared.{ahead_by, unbeaten_by, best_by}
 use Rattle.certificate.specs.Reading.{claims_in}
-use Rattle.certificate.specs.Progress.{Kept}
+use Rattle.certificate.specs.Progress.{KeptAll}
 use Rattle.certificate.specs.Truth.{OfPairs}
 
 module _ (s : ℕ → ℕ → ℕ) (x : ℕ) where
@@ -38,5 +39,5 @@ best_same s t v h =
     ]))
 
 -- by the strengths that were kept they are those by the strengths that the certificate claims
-pub kept_best : (v : ℕ) (sheet cs : List ℕ) → Kept v sheet v 0 cs → best_by (cell cs) v ≡ best_by (claims_in v sheet).strength v
-kept_best v sheet cs k = best_same (cell cs) (claims_in v sheet).strength v (λ x y lx ly ne. k x y (inl lx) ly ne)
+pub kept_best : (v : ℕ) (sheet : List ℕ) (g : Grid) → KeptAll v sheet g → best_by (entry g) v ≡ best_by (claims_in v sheet).strength v
+kept_best v sheet g k = best_same (entry g) (claims_in v sheet).strength v k.all

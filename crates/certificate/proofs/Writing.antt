@@ -1,57 +1,65 @@
 -- Bytes written one behind the other.
-use Rattle.std.proofs.Common.{◌≡◌, ℕ, zero, suc, ◌+◌, ◌<◌, ◌≤◌, ◌≢◌, List, [], ◌∷◌, length, take, sym, refl, ap, ◌∙◌, subst, inl, inr, add-zero, arith, length-append}
+use Rattle.std.proofs.Common.{◌≡◌, ℕ, ◌+◌, ◌<◌, ◌≤◌, ◌≢◌, List, [], ◌∷◌, ◌++◌, length, take, sym, refl, ap, ◌∙◌, subst, add-zero, append_assoc, arith, length-append}
 use borrow.Rule.Slice.PartMut.{put_mid}
-use Rattle.std.specs.List.{range_with_len, flat_map}
 use Rattle.std.proofs.lemmas.List.{take-append-drop, take_at, drop-drop}
-use Rattle.std.proofs.lemmas.Bool.{cases_eq, eq-eqb, ne_eqb, le-leb}
+use Rattle.std.proofs.lemmas.Bool.{eq-eqb, ne_eqb, le-leb}
 use Rattle.ballots.specs.Format.{most_candidates}
-use Rattle.ballots.proofs.Products.{rows_more}
 use Rattle.pairwise.specs.declared.Pairwise.{Pairwise}
 use Rattle.pairwise.specs.Tables.{win_in}
 use Rattle.paths.specs.Rows.{row}
 use Rattle.paths.specs.Found.{put, path_bytes, PathWritten, Wrote}
 use Rattle.paths.proofs.Written.{wrote_both}
-use Rattle.certificate.specs.Layout.{two_bytes, four_bytes, Claims, entry_bytes, claim_bytes}
+use Rattle.certificate.specs.declared.writes.Writer.{Writer}
+use Rattle.certificate.specs.Layout.{two_bytes, four_bytes, Claims, entry_bytes, claim_bytes, all_pairs}
+use Rattle.certificate.specs.Progress.{Put}
+use Rattle.certificate.proofs.Pairs.{before, behind, before_next, before_row, before_all, all_before}
 
--- nothing, and a part copied
-pub wrote_none : (at : ℕ) (old : List ℕ) → Wrote [] at old old at
+-- nothing, a part copied, and parts one behind the other
+pub put_none : (a : Writer) → Put [] a a
 unfolding put
-wrote_none at old = record { stop = omega arith; after = rw add-zero (sym (take-append-drop at old)) }
+put_none a =
+    record { wrote = record { stop = omega arith; after = rw add-zero (sym (take-append-drop a.at a.sheet.now)) }; size = refl; same = refl }
 
 pub wrote_part : (bytes part : List ℕ) (at k : ℕ) (old : List ℕ) → part ≡ bytes → k ≡ length bytes →
     Wrote bytes at old (put_mid at k old part) (at + length bytes)
 unfolding put
 wrote_part bytes part at k old p e = record { stop = refl; after = rw (p, e, drop-drop (length bytes) at old) }
 
-pub wrote_as : {bytes bs old new : List ℕ} {at r : ℕ} → bytes ≡ bs → Wrote bytes at old new r → Wrote bs at old new r
-wrote_as {old = old} {new = new} {at = at} {r = r} e w = subst (λ l. Wrote l at old new r) e w
+pub put_as : {bytes bs : List ℕ} {a b : Writer} → bytes ≡ bs → Put bytes a b → Put bs a b
+put_as {a = a} {b = b} e w = subst (λ l. Put l a b) e w
 
--- n parts, one behind the other
-module _ (g : ℕ → List ℕ) where
-  parts_fit : (m n : ℕ) → m ≤ n → length (flat_map g (range_with_len 0 m)) ≤ length (flat_map g (range_with_len 0 n))
-  parts_fit m zero h = let e : m ≡ 0 = omega arith in rw e (omega arith)
-  parts_fit m (suc n) h =
-      let s : n + 1 ≡ suc n = omega arith in
-      elim (cases_eq m (suc n)) [
-        | inl e ↦ rw e (omega arith)
-        | inr e ↦ subst (λ k. length (flat_map g (range_with_len 0 m)) ≤ length (flat_map g (range_with_len 0 k))) s
-            (omega (arith, ap length (rows_more g n), length-append (flat_map g (range_with_len 0 n)) (g n), parts_fit m n (omega arith)))
-      ]
+pub put_both : {bytes ps qs : List ℕ} {a b c : Writer} → bytes ≡ ps ++ qs → a.at + length bytes ≤ length a.sheet.now →
+    Put ps a b → Put qs b c → Put bytes a c
+put_both e room p q = record { wrote = wrote_both e room p.wrote q.wrote; size = q.size ∙ p.size; same = q.same ∙ p.same }
 
-  -- the next part has room
-  pub part_fits : (i n at : ℕ) {old new : List ℕ} {p : ℕ} → i < n → at + length (flat_map g (range_with_len 0 n)) ≤ length old →
-      length new ≡ length old → Wrote (flat_map g (range_with_len 0 i)) at old new p → p + length (g i) ≤ length new
-  part_fits i n at h room same w =
-      omega (arith, w.stop, parts_fit (i + 1) n (omega arith), ap length (rows_more g i), length-append (flat_map g (range_with_len 0 i)) (g i))
+-- what is left behind the reference that a writer held
+pub put_left : {bytes left : List ℕ} {a b : Writer} → Put bytes a b → (a.sheet.ghost_name ≡ b.sheet.ghost_name → left ≡ b.sheet.now) →
+    Wrote bytes a.at a.sheet.now left b.at
+put_left p e = record { stop = p.wrote.stop; after = e (sym p.same) ∙ p.wrote.after }
 
-  -- and is written
-  pub wrote_next : (i n at : ℕ) {old mid new : List ℕ} {p q : ℕ} → i < n → at + length (flat_map g (range_with_len 0 n)) ≤ length old →
-      Wrote (flat_map g (range_with_len 0 i)) at old mid p → Wrote (g i) p mid new q → Wrote (flat_map g (range_with_len 0 (i + 1))) at old new q
-  wrote_next i n at h room w v =
-      wrote_both (rows_more g i) (omega (arith, parts_fit (i + 1) n (omega arith))) w v
+-- the parts of pairs behind a front, where there is room for all
+module _ (front : List ℕ) (v : ℕ) (f : ℕ → ℕ → List ℕ) (x y : ℕ) where
+  next : front ++ before v f x (y + 1) ≡ (front ++ before v f x y) ++ f x y
+  next = ap (λ l. front ++ l) (before_next v f x y) ∙ sym (append_assoc front (before v f x y) (f x y))
 
-  pub wrote_all : (i n at : ℕ) {old new : List ℕ} {p : ℕ} → i ≡ n → Wrote (flat_map g (range_with_len 0 i)) at old new p → Wrote (flat_map g (range_with_len 0 n)) at old new p
-  wrote_all i n at e w = rw e at w
+  pair_room : (at n : ℕ) → x < v → y < v → at + length (front ++ all_pairs v f) ≤ n → at + length (front ++ before v f x (y + 1)) ≤ n
+  pair_room at n lx ly room =
+      omega (arith, length-append front (all_pairs v f), length-append front (before v f x (y + 1)), ap length (all_before v f x y lx ly), length-append (before v f x (y + 1)) (behind v f x y))
+
+  pub pair_fits : {a b : Writer} → x < v → y < v → a.at + length (front ++ all_pairs v f) ≤ length a.sheet.now →
+      Put (front ++ before v f x y) a b → b.at + length (f x y) ≤ length b.sheet.now
+  pair_fits {a} lx ly room p =
+      omega (arith, p.wrote.stop, p.size, pair_room a.at (length a.sheet.now) lx ly room, ap length next, length-append (front ++ before v f x y) (f x y))
+
+  pub pair_put : {a b c : Writer} → x < v → y < v → a.at + length (front ++ all_pairs v f) ≤ length a.sheet.now →
+      Put (front ++ before v f x y) a b → Put (f x y) b c → Put (front ++ before v f x (y + 1)) a c
+  pair_put {a} lx ly room p q = put_both next (pair_room a.at (length a.sheet.now) lx ly room) p q
+
+  pub row_put : {a b : Writer} → y ≡ v → Put (front ++ before v f x y) a b → Put (front ++ before v f (x + 1) 0) a b
+  row_put e p = put_as (ap (λ l. front ++ l) (before_row v f x y e)) p
+
+pub all_put : (front : List ℕ) (v : ℕ) (f : ℕ → ℕ → List ℕ) (x : ℕ) {a b : Writer} → x ≡ v → Put (front ++ before v f x 0) a b → Put (front ++ all_pairs v f) a b
+all_put front v f x e p = put_as (ap (λ l. front ++ l) (before_all v f x e)) p
 
 -- the path of a pair is read from the front of what it was written to
 module _ (t : Pairwise) (x y : ℕ) (old new : List ℕ) (r : ℕ) (w : PathWritten t x y 0 old new r) (size : length old ≡ most_candidates) where
@@ -66,14 +74,14 @@ module _ (t : Pairwise) (x y : ℕ) (old new : List ℕ) (r : ℕ) (w : PathWrit
   path_front = rw (w.after, path_count, path_bytes_is) (take_at (row (win_in t) t.counts.candidates x y) _ _ refl)
 
 -- an entry in four parts
-pub wrote_entry :
-    (s k c : ℕ) (path : List ℕ) {at p q r end : ℕ} {S₀ S₁ S₂ S₃ S₄ : List ℕ} → k ≡ length path → at + (7 + length path) ≤ length S₀ →
-    Wrote (two_bytes s) at S₀ S₁ p → Wrote (k ∷ []) p S₁ S₂ q → Wrote path q S₂ S₃ r → Wrote (four_bytes c) r S₃ S₄ end →
-    Wrote (entry_bytes s path c) at S₀ S₄ end
+pub put_entry :
+    (s k c : ℕ) (path : List ℕ) {w₀ w₁ w₂ w₃ w₄ : Writer} → k ≡ length path → w₀.at + (7 + length path) ≤ length w₀.sheet.now →
+    Put (two_bytes s) w₀ w₁ → Put (k ∷ []) w₁ w₂ → Put path w₂ w₃ → Put (four_bytes c) w₃ w₄ →
+    Put (entry_bytes s path c) w₀ w₄
 unfolding entry_bytes
-wrote_entry s k c path e room a b d f =
+put_entry s k c path e room a b d f =
     let l = length-append path (four_bytes c) in
-    rw (← e) (wrote_both refl (omega arith) (wrote_both refl (omega arith) (wrote_both refl (omega arith) a b) d) f)
+    rw (← e) (put_both refl (omega arith) (put_both refl (omega arith) (put_both refl (omega arith) a b) d) f)
 
 pub claim_other : (claims : Claims) (x y : ℕ) → x ≢ y → claim_bytes claims x y ≡ entry_bytes (claims.strength x y) (claims.path x y) (claims.cut x y)
 unfolding claim_bytes

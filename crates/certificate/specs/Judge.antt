@@ -13,22 +13,27 @@ use Rattle.certificate.specs.Layout.{Claims, all_pairs, table_bytes}
 use Rattle.certificate.specs.Reading.{four_at, cut_place, place, best_place, claims_in}
 
 -- a demand: whether it is met, and the refusal where it is not
-abbrev pub Demand : Type 0
-Demand = Bool × Refusal
+pub record Demand : Type 0 where
+  pub met : Bool
+  pub refusal : Refusal
+
+-- a demand by its test
+abbrev pub demand : Bool → Refusal → Demand
+demand met refusal = record { met = met; refusal = refusal }
 
 -- the refusal of the first one that is not met, if there is one
 abbrev pub unmet : List Demand → Option Refusal
 unmet [] = None
-unmet (d ∷ ds) = cond d.0 (unmet ds) (Some d.1)
+unmet (d ∷ ds) = cond d.met (unmet ds) (Some d.refusal)
 
 -- the certificate goes on to the place p at the least
 abbrev pub reaches : List ℕ → ℕ → Demand
-reaches sheet p = (nat_le p (length sheet), refuse.Length (length sheet))
+reaches sheet p = demand (nat_le p (length sheet)) (refuse.Length (length sheet))
 
 -- these bytes stand in the certificate from p on
 abbrev pub stands : List ℕ → ℕ → List ℕ → List Demand
 stands sheet p [] = []
-stands sheet p (b ∷ bs) = reaches sheet (p + 1) ∷ (((slice_index sheet p == b), refuse.Table p) ∷ stands sheet (p + 1) bs)
+stands sheet p (b ∷ bs) = reaches sheet (p + 1) ∷ (demand (slice_index sheet p == b) (refuse.Table p) ∷ stands sheet (p + 1) bs)
 
 -- from x over the candidates of the row to y, its last: they are below v, and each wins against the next
 abbrev pub leads : (ℕ → ℕ → ℕ) → ℕ → ℕ → List ℕ → ℕ → Bool
@@ -56,9 +61,9 @@ entry_demands w v sheet x y =
     let claims : Claims = claims_in v sheet in
     reaches sheet (p + 3)
     ∷ (reaches sheet (cut_place sheet p)
-    ∷ ((is_path w v x y (claims.strength x y) (claims.path x y), refuse.Path x y)
+    ∷ (demand (is_path w v x y (claims.strength x y) (claims.path x y)) (refuse.Path x y)
     ∷ (reaches sheet (cut_place sheet p + 4)
-    ∷ ((is_cut w v x y (claims.strength x y) (claims.cut x y), refuse.Cut x y)
+    ∷ (demand (is_cut w v x y (claims.strength x y) (claims.cut x y)) (refuse.Cut x y)
     ∷ []))))
 
 -- the same of each pair, where a candidate has no entry with itself
@@ -70,8 +75,8 @@ unfoldable pub best_demands : ℕ → List ℕ → List Demand
 best_demands v sheet =
     let p : ℕ = best_place v sheet in
     reaches sheet (p + 4)
-    ∷ (((four_at sheet p == best_by (claims_in v sheet).strength v), refuse.Best)
-    ∷ ((nat_le (length sheet) (p + 4), refuse.Length (p + 4))
+    ∷ (demand (four_at sheet p == best_by (claims_in v sheet).strength v) refuse.Best
+    ∷ (demand (nat_le (length sheet) (p + 4)) (refuse.Length (p + 4))
     ∷ []))
 
 -- all that is demanded of a certificate of v candidates with the counts n

@@ -1,23 +1,22 @@
 // The end of a certificate: the set of the best.
-ghost use Rattle.std.specs.Prelude.{◌≡◌, ◌<◌, ◌≤◌, true, length};
-ghost use Rattle.ballots.specs.Format.{most_candidates};
+ghost use Rattle.std.specs.Prelude.{◌≡◌, ◌<◌, true};
 ghost use Rattle.ballots.specs.Lending.{answered};
 ghost use Rattle.best.specs.Compared.{unbeaten_by, best_by};
-ghost use Rattle.pairwise.specs.Grids.{cells, cell};
+ghost use Rattle.pairwise.specs.Grids.{entry};
 ghost use Rattle.certificate.specs.Reading.{best_place};
 ghost use Rattle.certificate.specs.Judge.{unmet, best_demands};
-ghost use Rattle.certificate.specs.Progress.{Kept};
+ghost use Rattle.certificate.specs.Progress.{KeptAll};
 
-use crate::reads::four_at;
-use ballots::{MOST_CANDIDATES, Refusal};
+use crate::reads::Reader;
+use ballots::Refusal;
+use pairwise::Grid;
 
 // Whether nobody's strength to x is above that from x.
-fn is_unbeaten(strengths: &[u16], candidates: usize, x: usize) -> bool
-    requires { (length strengths.now ≡ cells) × ((candidates ≤ most_candidates) × (x < candidates)) }
-    ensures { result ≡ unbeaten_by (cell strengths.now) candidates (λ _. true) x }
+fn is_unbeaten(strengths: &Grid, x: usize) -> bool
+    ensures { result ≡ unbeaten_by (entry strengths.now) strengths.now.candidates (λ _. true) x }
 {
-    for y in 0..candidates {
-        if strengths[y * MOST_CANDIDATES + x] > strengths[x * MOST_CANDIDATES + y] {
+    for y in 0..strengths.candidates {
+        if strengths.at(y, x) > strengths.at(x, y) {
             return false;
         }
     }
@@ -25,40 +24,26 @@ fn is_unbeaten(strengths: &[u16], candidates: usize, x: usize) -> bool
 }
 
 // The set of those whom nobody's strength is above.
-fn unbeaten_set(strengths: &[u16], candidates: usize) -> u32
-    requires { (length strengths.now ≡ cells) × (candidates ≤ most_candidates) }
-    ensures { result ≡ best_by (cell strengths.now) candidates }
+fn unbeaten_set(strengths: &Grid) -> u32
+    ensures { result ≡ best_by (entry strengths.now) strengths.now.candidates }
 {
     let mut set: u32 = 0;
-    for x in 0..candidates {
-        if is_unbeaten(strengths, candidates, x) {
+    for x in 0..strengths.candidates {
+        if is_unbeaten(strengths, x) {
             set |= 1 << x;
         }
     }
     set
 }
 
-// Whether the certificate ends with the set of the best by its strengths.
-pub(crate) fn check_best(
-    sheet: &[u8],
-    at: usize,
-    strengths: &[u16],
-    candidates: usize,
-) -> Result<(), Refusal>
-    requires here { (at ≡ best_place candidates sheet.now) × (at ≤ length sheet.now) }
-    requires few { candidates ≤ most_candidates }
-    requires kept { (length strengths.now ≡ cells) × (Kept candidates sheet.now candidates 0 strengths.now) }
-    ensures { result ≡ answered (unmet (best_demands candidates sheet.now)) tt }
+// Reads the set of the best, which has to be that by the strengths, with nothing behind it.
+pub(crate) fn check_best(reader: &mut Reader, strengths: &Grid) -> Result<(), Refusal>
+    requires here { reader.old.at ≡ best_place strengths.now.candidates reader.old.sheet.now }
+    requires kept { KeptAll strengths.now.candidates reader.old.sheet.now strengths.now }
+    ensures { result ≡ answered (unmet (best_demands strengths.now.candidates reader.old.sheet.now)) tt }
 {
-    let end = sheet.len();
-    if end - at < 4 {
-        return Err(Refusal::Length { at: end });
-    }
-    if four_at(sheet, at) != unbeaten_set(strengths, candidates) {
+    if reader.set()? != unbeaten_set(strengths) {
         return Err(Refusal::Best);
     }
-    if at + 4 < end {
-        return Err(Refusal::Length { at: at + 4 });
-    }
-    Ok(())
+    reader.finish()
 }

@@ -7,18 +7,19 @@ ghost use Rattle.certificate.specs.Truth.{TrueTo, AsSaid};
 
 use crate::bests::check_best;
 use crate::entries::check_entries;
+use crate::reads::Reader;
 use crate::tables::check_table;
 use ballots::Refusal;
-use pairwise::{CELLS, Pairwise, tally};
+use pairwise::{Pairwise, tally};
 
 // Whether a certificate is right for a table, or the first refusal in it, front to back.
 fn check_against(table: &Pairwise, sheet: &[u8]) -> Result<(), Refusal>
     ensures { result ≡ answered (unmet (demands_in table.now sheet.now)) tt }
 {
-    let mut strengths = [0u16; CELLS];
-    let entries_at = check_table(table, sheet)?;
-    let best_at = check_entries(table, sheet, entries_at, &mut strengths)?;
-    check_best(sheet, best_at, &strengths, table.counts.candidates)
+    let mut reader = Reader::new(sheet);
+    check_table(table, &mut reader)?;
+    let strengths = check_entries(table, &mut reader)?;
+    check_best(&mut reader, &strengths)
 }
 
 // Accepts the certificate of the ballots that the bytes hold, or answers the first refusal: of the ballots, then of

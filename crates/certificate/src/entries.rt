@@ -1,116 +1,67 @@
 // The entries of a certificate: one for each pair of different candidates.
-ghost use Rattle.std.specs.Prelude.{◌≡◌, ◌+◌, ◌<◌, ◌≢◌, length, IfOk, OnOk};
-ghost use Rattle.pairwise.specs.Grids.{cells};
-ghost use Rattle.certificate.specs.Progress.{At, behind_entry, behind_claim, behind_row, behind_all, Kept, Keeps};
+ghost use Rattle.std.specs.Prelude.{◌≡◌, ◌<◌, ◌≢◌, ◌+◌, IfOk};
+ghost use Rattle.pairwise.specs.Tables.{win_in};
+ghost use Rattle.certificate.specs.Layout.{all_pairs};
+ghost use Rattle.certificate.specs.Reading.{table_end, place, best_place, claims_in};
+ghost use Rattle.certificate.specs.Judge.{entry_demands, claim_demands};
+ghost use Rattle.certificate.specs.Progress.{Moved, claimed, KeptAll};
 
 use crate::claims::{is_cut, is_path};
-use crate::reads::{four_at, two_at};
+use crate::reads::Reader;
 use ballots::{MOST_CANDIDATES, Refusal};
-use pairwise::Pairwise;
+use pairwise::{CELLS, Grid, Pairwise};
 
-// The place behind the entry of the pair x, y.
-fn check_entry(
-    table: &Pairwise,
-    sheet: &[u8],
-    at: usize,
-    x: usize,
-    y: usize,
-) -> Result<usize, Refusal>
+// Reads the entry of the pair x, y, and answers the strength in it.
+fn check_entry(table: &Pairwise, reader: &mut Reader, x: usize, y: usize) -> Result<u16, Refusal>
     requires pair { (x < table.now.counts.candidates) × ((y < table.now.counts.candidates) × (x ≢ y)) }
-    requires here { At table.now sheet.now x y at }
-    ensures { result ≡ behind_entry table.now sheet.now x y }
+    requires here { reader.old.at ≡ place table.now.counts.candidates reader.old.sheet.now x y }
+    ensures moved { Moved (entry_demands (win_in table.now) table.now.counts.candidates reader.old.sheet.now x y) (place table.now.counts.candidates reader.old.sheet.now x (y + 1)) reader.old reader.new result }
+    ensures strength { IfOk result (λ s. s ≡ (claims_in table.now.counts.candidates reader.old.sheet.now).strength x y) }
 {
-    let end = sheet.len();
-    if end - at < 3 {
-        return Err(Refusal::Length { at: end });
-    }
-    let strength = two_at(sheet, at);
-    let count = sheet[at + 2] as usize;
-    let path_at = at + 3;
-    if end - path_at < count {
-        return Err(Refusal::Length { at: end });
-    }
-    let cut_at = path_at + count;
-    if !is_path(table, &sheet[path_at..cut_at], x, y, strength) {
+    let strength = reader.number()?;
+    let count = reader.byte()?;
+    let path = reader.take(usize::from(count))?;
+    if !is_path(table, path, x, y, strength) {
         return Err(Refusal::Path {
             from: x as u8,
             to: y as u8,
         });
     }
-    if end - cut_at < 4 {
-        return Err(Refusal::Length { at: end });
-    }
-    if !is_cut(table, four_at(sheet, cut_at), x, y, strength) {
+    let cut = reader.set()?;
+    if !is_cut(table, cut, x, y, strength) {
         return Err(Refusal::Cut {
             from: x as u8,
             to: y as u8,
         });
     }
-    Ok(cut_at + 4)
+    Ok(strength)
 }
 
-// The same for any pair, where a candidate has no entry with itself; the strength is kept.
-fn check_claim(
-    table: &Pairwise,
-    sheet: &[u8],
-    at: usize,
-    x: usize,
-    y: usize,
-    strengths: &mut [u16],
-) -> Result<usize, Refusal>
+// The same for any pair: a candidate has no entry with itself, and the strength 0.
+fn check_claim(table: &Pairwise, reader: &mut Reader, x: usize, y: usize) -> Result<u16, Refusal>
     requires pair { (x < table.now.counts.candidates) × (y < table.now.counts.candidates) }
-    requires here { At table.now sheet.now x y at }
-    requires room { length strengths.old ≡ cells }
-    ensures answer { result ≡ behind_claim table.now sheet.now x y }
-    ensures next { IfOk result (At table.now sheet.now x (y + 1)) }
-    ensures kept { Keeps table.now sheet.now x y x (y + 1) strengths.old strengths.new result }
+    requires here { reader.old.at ≡ place table.now.counts.candidates reader.old.sheet.now x y }
+    ensures moved { Moved (claim_demands (win_in table.now) table.now.counts.candidates reader.old.sheet.now x y) (place table.now.counts.candidates reader.old.sheet.now x (y + 1)) reader.old reader.new result }
+    ensures strength { IfOk result (λ s. s ≡ claimed table.now.counts.candidates reader.old.sheet.now x y) }
 {
     if x == y {
-        return Ok(at);
+        return Ok(0);
     }
-    let next = check_entry(table, sheet, at, x, y)?;
-    strengths[x * MOST_CANDIDATES + y] = two_at(sheet, at);
-    Ok(next)
+    check_entry(table, reader, x, y)
 }
 
-// The place behind the entries of x.
-fn check_row(
-    table: &Pairwise,
-    sheet: &[u8],
-    at: usize,
-    x: usize,
-    strengths: &mut [u16],
-) -> Result<usize, Refusal>
-    requires one { x < table.now.counts.candidates }
-    requires here { At table.now sheet.now x 0 at }
-    requires room { length strengths.old ≡ cells }
-    ensures answer { result ≡ behind_row table.now sheet.now x }
-    ensures next { IfOk result (At table.now sheet.now (x + 1) 0) }
-    ensures kept { Keeps table.now sheet.now x 0 (x + 1) 0 strengths.old strengths.new result }
+// Reads the entries of all pairs, and answers the strengths in them.
+pub(crate) fn check_entries(table: &Pairwise, reader: &mut Reader) -> Result<Grid, Refusal>
+    requires { reader.old.at ≡ table_end table.now.counts.candidates }
+    ensures moved { Moved (all_pairs table.now.counts.candidates (claim_demands (win_in table.now) table.now.counts.candidates reader.old.sheet.now)) (best_place table.now.counts.candidates reader.old.sheet.now) reader.old reader.new result }
+    ensures kept { IfOk result (KeptAll table.now.counts.candidates reader.old.sheet.now) }
 {
-    let mut at = at;
-    for y in 0..table.counts.candidates {
-        at = check_claim(table, sheet, at, x, y, strengths)?;
+    let candidates = table.counts.candidates;
+    let mut cells = [0; CELLS];
+    for x in 0..candidates {
+        for y in 0..candidates {
+            cells[x * MOST_CANDIDATES + y] = check_claim(table, reader, x, y)?;
+        }
     }
-    Ok(at)
-}
-
-// The place behind all entries, which start at `at`.
-pub(crate) fn check_entries(
-    table: &Pairwise,
-    sheet: &[u8],
-    at: usize,
-    strengths: &mut [u16],
-) -> Result<usize, Refusal>
-    requires here { At table.now sheet.now 0 0 at }
-    requires room { length strengths.old ≡ cells }
-    ensures answer { result ≡ behind_all table.now sheet.now }
-    ensures next { IfOk result (At table.now sheet.now table.now.counts.candidates 0) }
-    ensures kept { OnOk result (Kept table.now.counts.candidates sheet.now table.now.counts.candidates 0 strengths.new) }
-{
-    let mut at = at;
-    for x in 0..table.counts.candidates {
-        at = check_row(table, sheet, at, x, strengths)?;
-    }
-    Ok(at)
+    Ok(Grid { candidates, cells })
 }

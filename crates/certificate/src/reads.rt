@@ -1,19 +1,84 @@
-// Numbers in bytes, low byte first.
-ghost use Rattle.std.specs.Prelude.{◌≡◌, ◌+◌, ◌≤◌, length};
-ghost use Rattle.certificate.specs.Reading.{two_at, four_at};
+// Reading a certificate from its front on.
+ghost use Rattle.std.specs.Prelude.{◌≤◌, length};
 
-// The number in two bytes.
-pub(crate) fn two_at(sheet: &[u8], at: usize) -> u16
-    requires { at + 2 ≤ length sheet.now }
-    ensures { result ≡ two_at sheet.now at }
-{
-    u16::from_le_bytes([sheet[at], sheet[at + 1]])
+use ballots::Refusal;
+
+// A certificate, and how far it is read.
+#[derive(Drop)]
+pub(crate) struct Reader<'a> {
+    pub sheet: &'a [u8],
+    pub at: usize,
+    ghost within: { at ≤ length sheet.now },
 }
 
-// The number in four bytes.
-pub(crate) fn four_at(sheet: &[u8], at: usize) -> u32
-    requires { at + 4 ≤ length sheet.now }
-    ensures { result ≡ four_at sheet.now at }
-{
-    u32::from_le_bytes([sheet[at], sheet[at + 1], sheet[at + 2], sheet[at + 3]])
+impl<'a> Reader<'a> {
+    ghost use Rattle.std.specs.Prelude.{◌≡◌, ◌+◌, take, drop, IfOk, slice_index};
+    ghost use Rattle.certificate.specs.Reading.{two_at, four_at};
+    ghost use Rattle.certificate.specs.Progress.{Reaches, Reads, Ends};
+
+    pub fn new(sheet: &'a [u8]) -> Reader<'a>
+        ensures front { result.at ≡ 0 }
+        ensures whole { result.sheet.now ≡ sheet.now }
+    {
+        Reader { sheet, at: 0 }
+    }
+
+    // The next bytes, as many as are asked for.
+    pub fn take(&mut self, count: usize) -> Result<&'a [u8], Refusal>
+        ensures moved { Reaches count self.old self.new result }
+        ensures bytes { IfOk result (λ b. b.now ≡ take count (drop self.old.at self.old.sheet.now)) }
+    {
+        let end = self.sheet.len();
+        if end - self.at < count {
+            return Err(Refusal::Length { at: end });
+        }
+        let from = self.at;
+        self.at = from + count;
+        Ok(&self.sheet[from..from + count])
+    }
+
+    // The next bytes, as many as the array has.
+    fn array<const N: usize>(&mut self) -> Result<[u8; N], Refusal>
+        ensures { Reads N (λ bs p. take N (drop p bs)) self.old self.new result }
+    {
+        match self.sheet[self.at..].first_chunk::<N>() {
+            Some(array) => {
+                self.at += N;
+                Ok(*array)
+            }
+            None => Err(Refusal::Length {
+                at: self.sheet.len(),
+            }),
+        }
+    }
+
+    pub fn byte(&mut self) -> Result<u8, Refusal>
+        ensures { Reads 1 slice_index self.old self.new result }
+    {
+        Ok(u8::from_le_bytes(self.array()?))
+    }
+
+    // The number in the next two bytes, low byte first.
+    pub fn number(&mut self) -> Result<u16, Refusal>
+        ensures { Reads 2 two_at self.old self.new result }
+    {
+        Ok(u16::from_le_bytes(self.array()?))
+    }
+
+    // The set in the next four bytes, low byte first.
+    pub fn set(&mut self) -> Result<u32, Refusal>
+        ensures { Reads 4 four_at self.old self.new result }
+    {
+        Ok(u32::from_le_bytes(self.array()?))
+    }
+
+    // Refuses bytes behind those that are read.
+    pub fn finish(&self) -> Result<(), Refusal>
+        ensures { Ends self.now result }
+    {
+        if self.at < self.sheet.len() {
+            return Err(Refusal::Length { at: self.at });
+        }
+        Ok(())
+    }
 }

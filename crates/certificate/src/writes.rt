@@ -1,102 +1,74 @@
 // Writing a certificate, part by part.
 ghost use Rattle.std.specs.Prelude.{◌+◌, ◌≤◌, length};
 ghost use Rattle.paths.specs.Found.{Wrote};
-ghost use Rattle.certificate.specs.Layout.{two_bytes, four_bytes, claim_bytes};
+ghost use Rattle.certificate.specs.Layout.{claim_bytes};
 ghost use Rattle.certificate.specs.Certified.{longest};
-ghost use Rattle.certificate.specs.Parts.{row_bytes, front_bytes, found_in, claims_bytes, entries_bytes, certificate_in};
+ghost use Rattle.certificate.specs.Parts.{front_bytes, found_in, entries_bytes, certificate_in};
+ghost use Rattle.certificate.specs.Progress.{Put};
 
 use ballots::MOST_CANDIDATES;
 use pairwise::Pairwise;
 use paths::Strengths;
 
-// Writes bytes from a place on, and answers the place behind them.
-fn write_at(sheet: &mut [u8], at: usize, bytes: &[u8]) -> usize
-    requires { at + length bytes.now ≤ length sheet.old }
-    ensures { Wrote bytes.now at sheet.old sheet.new result }
-{
-    let end = at + bytes.len();
-    sheet[at..end].copy_from_slice(bytes);
-    end
+// A slice that a certificate is written to from the front on, and how far it is written.
+#[derive(Drop)]
+struct Writer<'a> {
+    sheet: &'a mut [u8],
+    at: usize,
 }
 
-// Writes a number in two bytes, low byte first.
-fn write_number(sheet: &mut [u8], at: usize, number: u16) -> usize
-    requires { at + 2 ≤ length sheet.old }
-    ensures { Wrote (two_bytes number) at sheet.old sheet.new result }
-{
-    write_at(sheet, at, &number.to_le_bytes())
-}
-
-// Writes a set in four bytes, low byte first.
-fn write_set(sheet: &mut [u8], at: usize, set: u32) -> usize
-    requires { at + 4 ≤ length sheet.old }
-    ensures { Wrote (four_bytes set) at sheet.old sheet.new result }
-{
-    write_at(sheet, at, &set.to_le_bytes())
-}
-
-// Writes a row of the table.
-fn write_counts(table: &Pairwise, sheet: &mut [u8], at: usize, x: usize) -> usize
-    requires { at + length (row_bytes table.now x) ≤ length sheet.old }
-    ensures { Wrote (row_bytes table.now x) at sheet.old sheet.new result }
-{
-    let mut at = at;
-    for y in 0..table.counts.candidates {
-        at = write_number(sheet, at, table.preferring(x, y));
+impl Writer<'_> {
+    // Writes bytes behind those that are written.
+    fn put(&mut self, bytes: &[u8])
+        requires { self.old.at + length bytes.now ≤ length self.old.sheet.now }
+        ensures { Put bytes.now self.old self.new }
+    {
+        let end = self.at + bytes.len();
+        self.sheet[self.at..end].copy_from_slice(bytes);
+        self.at = end;
     }
-    at
 }
 
 // Writes the number of candidates and the table.
-fn write_table(table: &Pairwise, sheet: &mut [u8]) -> usize
-    requires { length (front_bytes table.now) ≤ length sheet.old }
-    ensures { Wrote (front_bytes table.now) 0 sheet.old sheet.new result }
+fn write_table(table: &Pairwise, writer: &mut Writer)
+    requires { writer.old.at + length (front_bytes table.now) ≤ length writer.old.sheet.now }
+    ensures { Put (front_bytes table.now) writer.old writer.new }
 {
-    let mut at = write_at(sheet, 0, &[table.counts.candidates as u8]);
+    writer.put(&[table.counts.candidates as u8]);
     for x in 0..table.counts.candidates {
-        at = write_counts(table, sheet, at, x);
+        for y in 0..table.counts.candidates {
+            writer.put(&table.preferring(x, y).to_le_bytes());
+        }
     }
-    at
 }
 
 // Writes the entry of the pair x, y; a candidate has none with itself.
-fn write_claim(strengths: &Strengths, sheet: &mut [u8], at: usize, x: usize, y: usize) -> usize
-    requires { at + length (claim_bytes (found_in strengths.now.pairwise) x y) ≤ length sheet.old }
-    ensures { Wrote (claim_bytes (found_in strengths.now.pairwise) x y) at sheet.old sheet.new result }
+fn write_claim(strengths: &Strengths, writer: &mut Writer, x: usize, y: usize)
+    requires { writer.old.at + length (claim_bytes (found_in strengths.now.pairwise) x y) ≤ length writer.old.sheet.now }
+    ensures { Put (claim_bytes (found_in strengths.now.pairwise) x y) writer.old writer.new }
 {
     if x == y {
-        return at;
+        return;
     }
     let mut path = [0u8; MOST_CANDIDATES];
     let count = strengths.write_path(x, y, &mut path, 0);
-    let count_at = write_number(sheet, at, strengths.at(x, y));
-    let path_at = write_at(sheet, count_at, &[count as u8]);
-    let cut_at = write_at(sheet, path_at, &path[..count]);
-    write_set(sheet, cut_at, strengths.cut(x, y))
-}
-
-// Writes the entries of x.
-fn write_claims(strengths: &Strengths, sheet: &mut [u8], at: usize, x: usize) -> usize
-    requires { at + length (claims_bytes strengths.now.pairwise x) ≤ length sheet.old }
-    ensures { Wrote (claims_bytes strengths.now.pairwise x) at sheet.old sheet.new result }
-{
-    let mut at = at;
-    for y in 0..strengths.pairwise.counts.candidates {
-        at = write_claim(strengths, sheet, at, x, y);
-    }
-    at
+    writer.put(&strengths.at(x, y).to_le_bytes());
+    writer.put(&[count as u8]);
+    writer.put(&path[..count]);
+    writer.put(&strengths.cut(x, y).to_le_bytes());
 }
 
 // Writes the entries of all pairs.
-fn write_entries(strengths: &Strengths, sheet: &mut [u8], at: usize) -> usize
-    requires { at + length (entries_bytes strengths.now.pairwise) ≤ length sheet.old }
-    ensures { Wrote (entries_bytes strengths.now.pairwise) at sheet.old sheet.new result }
+fn write_entries(strengths: &Strengths, writer: &mut Writer)
+    requires { writer.old.at + length (entries_bytes strengths.now.pairwise) ≤ length writer.old.sheet.now }
+    ensures { Put (entries_bytes strengths.now.pairwise) writer.old writer.new }
 {
-    let mut at = at;
-    for x in 0..strengths.pairwise.counts.candidates {
-        at = write_claims(strengths, sheet, at, x);
+    let candidates = strengths.pairwise.counts.candidates;
+    for x in 0..candidates {
+        for y in 0..candidates {
+            write_claim(strengths, writer, x, y);
+        }
     }
-    at
 }
 
 // Writes the certificate to the front of the slice, and answers its length.
@@ -104,7 +76,9 @@ pub(crate) fn write_certificate(strengths: &Strengths, best: u32, sheet: &mut [u
     requires { longest strengths.now.pairwise.counts.candidates ≤ length sheet.old }
     ensures { Wrote (certificate_in strengths.now.pairwise best) 0 sheet.old sheet.new result }
 {
-    let entries_at = write_table(&strengths.pairwise, sheet);
-    let best_at = write_entries(strengths, sheet, entries_at);
-    write_set(sheet, best_at, best)
+    let mut writer = Writer { sheet, at: 0 };
+    write_table(&strengths.pairwise, &mut writer);
+    write_entries(strengths, &mut writer);
+    writer.put(&best.to_le_bytes());
+    writer.at
 }

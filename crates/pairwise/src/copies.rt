@@ -25,6 +25,7 @@ impl Grid {
         if out.len() < v * v {
             return Err(Refusal::Short(lent));
         }
+        // A plain loop: of what is written through `chunks_exact_mut` a proof knows nothing.
         for x in 0..v {
             let to = x * v;
             let from = x * MOST_CANDIDATES;

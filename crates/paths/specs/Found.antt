@@ -1,6 +1,8 @@
 -- What is answered of a pair of candidates in a table of pairwise counts: its strength, its path and its cut. Assumes nothing.
 use Rattle.std.specs.Prelude.{◌≡◌, ℕ, ◌+◌, ◌<◌, true, cond, List, [], ◌++◌, length, take, drop, nat_le}
 use Rattle.pairwise.specs.declared.Pairwise.{Pairwise}
+use Rattle.pairwise.specs.declared.grid.Grid.{Grid}
+use Rattle.pairwise.specs.Grids.{entry}
 use Rattle.pairwise.specs.Tables.{win_in}
 use Rattle.paths.specs.Paths.{below, Strongest, pair}
 use Rattle.paths.specs.Rows.{ShowsStrongest, row}
@@ -11,6 +13,11 @@ use Rattle.paths.specs.Strengths.{strength_in}
 pub record StrengthOf (t : Pairwise) (x y s : ℕ) : Type 0 where
   pub is : s ≡ strength_in t x y
   pub strongest : pair t.counts.candidates x y ≡ true → Strongest (win_in t) t.counts.candidates x y s
+
+-- the grid has the strength of each pair
+pub record TableOf (t : Pairwise) (g : Grid) : Type 0 where
+  pub candidates : g.candidates ≡ t.counts.candidates
+  pub each : entry g ≡ strength_in t
 
 -- the set is the cut of x and y: no win that is stronger than the strength leaves it where they are two different candidates, else it is empty
 pub record CutOf (t : Pairwise) (x y set : ℕ) : Type 0 where

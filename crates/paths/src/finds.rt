@@ -1,7 +1,7 @@
 // Finding the strengths.
-ghost use Rattle.std.specs.Prelude.{◌≡◌, ℕ, ◌^◌, ◌<◌, ◌≤◌, length};
+ghost use Rattle.std.specs.Prelude.{◌≡◌, ℕ, ◌^◌, ◌<◌, ◌≤◌};
 ghost use Rattle.ballots.specs.Format.{most_candidates};
-ghost use Rattle.pairwise.specs.Grids.{cells as all_cells, cell, entry};
+ghost use Rattle.pairwise.specs.Grids.{cell, entry};
 ghost use Rattle.paths.specs.Found.{StrengthOf};
 ghost use Rattle.paths.specs.Phases.{Wins, Tried, Cleared};
 
@@ -14,6 +14,7 @@ fn wins(pairwise: &Pairwise) -> [u16; CELLS]
     ensures { Wins pairwise.now result }
 {
     let mut cells = [0; CELLS];
+    // A plain loop: what `array::from_fn` says of 900 elements is more than the check has memory for.
     for at in 0..CELLS {
         cells[at] = pairwise.win(at / MOST_CANDIDATES, at % MOST_CANDIDATES);
     }
@@ -21,8 +22,7 @@ fn wins(pairwise: &Pairwise) -> [u16; CELLS]
 }
 
 // Tries a candidate as the middle of the path from x to y, whose middles so far are all below it.
-fn better(cells: &mut [u16], middles: &mut [u32], middle: usize, x: usize, y: usize)
-    requires size { (length cells.old ≡ all_cells) × (length middles.old ≡ all_cells) }
+fn better(cells: &mut [u16; CELLS], middles: &mut [u32; CELLS], middle: usize, x: usize, y: usize)
     requires inside { (middle < most_candidates) × ((x < most_candidates) × (y < most_candidates)) }
     requires earlier { cell middles.old x y < 2 ^ middle }
     ensures { Tried middle x y cells.old middles.old cells.new middles.new }
@@ -38,9 +38,8 @@ fn better(cells: &mut [u16], middles: &mut [u32], middle: usize, x: usize, y: us
 }
 
 // No path leads from a candidate to itself: the circles that were found are taken out.
-fn clear_diagonal(cells: &mut [u16], candidates: usize)
-    requires size { length cells.old ≡ all_cells }
-    requires few { candidates ≤ most_candidates }
+fn clear_diagonal(cells: &mut [u16; CELLS], candidates: usize)
+    requires { candidates ≤ most_candidates }
     ensures { Cleared candidates cells.old cells.new }
 {
     for x in 0..candidates {

@@ -2,10 +2,11 @@
 ghost use Rattle.ballots.specs.declared.refusal.Lent.TheVariants as lent;
 ghost use Rattle.pairwise.specs.Grids.{Copied};
 ghost use Rattle.paths.specs.Strengths.{strength_table};
-ghost use Rattle.paths.specs.Found.{StrengthOf};
+ghost use Rattle.paths.specs.Found.{StrengthOf, TableOf};
 
 use crate::Strengths;
 use ballots::{Lent, Refusal};
+use pairwise::Grid;
 
 impl Strengths {
     // The strength of the strongest path from x to y; 0 where there is none, x is y, or there is no such pair.
@@ -13,6 +14,13 @@ impl Strengths {
         ensures { StrengthOf self.now.pairwise x y result }
     {
         self.strengths.at(x, y)
+    }
+
+    // The strengths of all pairs, as a table.
+    pub fn table(&self) -> &Grid
+        ensures { TableOf self.now.pairwise result.now }
+    {
+        &self.strengths
     }
 
     // Copies the strengths of all pairs to the front of the slice that is lent, in order of x, then y.

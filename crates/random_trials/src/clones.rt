@@ -1,11 +1,12 @@
 // Random files with a clone set, of which some are struck.
-use crate::bytes::Bytes;
-use crate::failure::Failure;
-use crate::random::{Random, Ranks};
+ghost use Rattle.std.specs.Prelude.{◌*◌, ◌≤◌};
+
+use crate::failure::{Disagreement, Failure};
+use crate::random::{MOST_LEVELS, Random, Ranks};
 use crate::slow::MOST;
 use ballots::holds;
 use best::best_of_both;
-use std::io;
+use std::alloc::{AllocError, Global};
 
 // How many files with a clone set are tried.
 const FILES: u16 = 5000;
@@ -22,10 +23,10 @@ struct Clones {
 }
 
 // A file, and the file that it is to become when all that do not stay are struck.
-#[derive(Clone, Copy)]
+#[derive(Drop)]
 struct Files {
-    all: Bytes,
-    struck: Bytes,
+    all: Vec<u8>,
+    struck: Vec<u8>,
 }
 
 // The set of one candidate.
@@ -35,7 +36,7 @@ fn only(x: u8) -> u32 {
 
 // One of the clone set stays, another is struck, and of the rest some are in the set and some of those stay.
 fn draw_clones(random: &mut Random) -> Clones {
-    let candidates = random.below(MOST as u8 - 1).saturating_add(2);
+    let candidates = random.below(MOST as u8 - 1) + 2;
     let one = random.below(candidates);
     let other = if one == 0 { 1 } else { random.below(one) };
     let members = random.set() & random.set() | only(one) | only(other);
@@ -48,46 +49,42 @@ fn draw_clones(random: &mut Random) -> Clones {
 }
 
 // A rank close to the level, with no other level between; close to a blank are blanks and the last ranks.
-fn close_to(random: &mut Random, level: u8) -> u8 {
+fn close_to(random: &mut Random, level: u8) -> u8
+    requires { level ≤ MOST_LEVELS * APART }
+{
     let near = random.below(APART);
     if level == 0 && near > 0 {
         return 255 - near;
     }
-    level.saturating_add(near)
+    level + near
 }
 
 impl Clones {
+    // How many stay.
     fn staying(&self) -> u8 {
-        let mut number: u8 = 0;
-        for x in 0..usize::from(self.candidates) {
-            if holds(self.stay, x) {
-                number = number.saturating_add(1);
-            }
-        }
-        number
+        (0..self.candidates)
+            .filter(|x| holds(self.stay, usize::from(*x)))
+            .count() as u8
     }
 
     // Whether one of the others has this rank on the ballot.
     fn is_shared(&self, ballot: &[u8; MOST], rank: u8) -> bool {
-        let mut shared = false;
-        for x in 0..MOST.min(usize::from(self.candidates)) {
-            shared = shared || !holds(self.members, x) && ballot[x] == rank;
-        }
-        shared
+        ballot
+            .iter()
+            .enumerate()
+            .take(usize::from(self.candidates))
+            .any(|(x, other)| !holds(self.members, x) && *other == rank)
     }
 
     // A ballot on which the clones stand together: all level with some other candidate, or close to each other with
     // nobody between.
     fn draw_ballot(&self, random: &mut Random, ranks: Ranks) -> [u8; MOST] {
-        let mut ballot = [0u8; MOST];
-        for x in 0..MOST {
-            ballot[x] = random.rank(ranks).wrapping_mul(APART);
-        }
-        let level = random.rank(ranks).wrapping_mul(APART);
+        let mut ballot: [u8; MOST] = std::array::from_fn(|_| random.rank(ranks) * APART);
+        let level = random.rank(ranks) * APART;
         let shared = self.is_shared(&ballot, level);
-        for x in 0..MOST {
+        for (x, rank) in ballot.iter_mut().enumerate() {
             if holds(self.members, x) {
-                ballot[x] = if shared {
+                *rank = if shared {
                     level
                 } else {
                     close_to(random, level)
@@ -99,17 +96,11 @@ impl Clones {
 
     // A set of those that stay, who are numbered anew in the struck file, by their numbers in the file.
     fn numbered_back(&self, struck: u32) -> u32 {
-        let mut set: u32 = 0;
-        let mut number: usize = 0;
-        for x in 0..self.candidates {
-            if holds(self.stay, usize::from(x)) {
-                if holds(struck, number) {
-                    set |= only(x);
-                }
-                number = number.wrapping_add(1);
-            }
-        }
-        set
+        (0..self.candidates)
+            .filter(|x| holds(self.stay, usize::from(*x)))
+            .enumerate()
+            .filter(|(number, _)| holds(struck, *number))
+            .fold(0, |set, (_, x)| set | only(x))
     }
 
     // Whether the best of the file and of the struck file are the same of the others, and of the clone set as a whole.
@@ -119,48 +110,58 @@ impl Clones {
         all & others == kept & others && (all & self.members != 0) == (kept & self.members != 0)
     }
 
-    fn draw_files(&self, random: &mut Random) -> Files {
+    fn draw_files(&self, random: &mut Random) -> Result<Files, AllocError> {
         let ballots = random.ballots();
         let ranks = random.ranks();
-        let mut all = Bytes::header(self.candidates, ballots);
-        let mut struck = Bytes::header(self.staying(), ballots);
+        let mut all = vec![in random.heap; self.candidates, ballots, 0]?;
+        let mut struck = vec![in random.heap; self.staying(), ballots, 0]?;
         for _ in 0..ballots {
             let ballot = self.draw_ballot(random, ranks);
-            for x in 0..MOST.min(usize::from(self.candidates)) {
-                all.push(ballot[x]);
+            for (x, rank) in ballot.iter().take(usize::from(self.candidates)).enumerate() {
+                all.push(*rank)?;
                 if holds(self.stay, x) {
-                    struck.push(ballot[x]);
+                    struck.push(*rank)?;
                 }
             }
         }
-        Files { all, struck }
+        Ok(Files { all, struck })
     }
 }
 
 // Whether the struck file is as it is to become, with nothing written behind it, and the best of both files agree.
-fn agree(clones: &Clones, files: &Files) -> bool {
-    let mut struck = Bytes::new();
-    match best_of_both(files.all.all(), clones.stay, &mut struck.room) {
-        Ok(both) => { struck.room == files.struck.room && clones.same_best(both.all, both.kept) }
-        Err(_) => false,
-    }
+fn agree(heap: Global, clones: &Clones, files: &Files) -> Result<bool, AllocError> {
+    let mut struck = vec![in heap; 0u8; files.all.len()]?;
+    let Ok(both) = best_of_both(&files.all, clones.stay, &mut struck) else {
+        return Ok(false);
+    };
+    Ok(
+        struck.starts_with(&files.struck)
+            && struck
+                .iter()
+                .skip(files.struck.len())
+                .all(|byte| *byte == 0)
+            && clones.same_best(both.all, both.kept),
+    )
 }
 
 // Tries one random file.
-fn trial(random: &mut Random) -> Option<Failure> {
+fn trial(random: &mut Random) -> Result<(), Failure> {
     let clones = draw_clones(random);
-    let files = clones.draw_files(random);
-    if agree(&clones, &files) {
-        return None;
+    let files = clones.draw_files(random)?;
+    if agree(random.heap, &clones, &files)? {
+        return Ok(());
     }
-    Some(Failure::new("striking disagrees", &files.all, &files.struck))
+    Err(Failure::Trial {
+        what: Disagreement::Striking,
+        file: files.all,
+        other: files.struck,
+    })
 }
 
-pub fn clone_files(rt: &HostRuntime, random: &mut Random) -> io::Result<()> {
+pub fn clone_files(rt: &HostRuntime, random: &mut Random) -> Result<(), Failure> {
     for _ in 0..FILES {
-        if let Some(failure) = trial(random) {
-            return failure.report(rt);
-        }
+        trial(random)?;
     }
-    println!(rt; "clone files {FILES}: struck files agree, best agrees")
+    println!(rt; "clone files {FILES}: struck files agree, best agrees")?;
+    Ok(())
 }

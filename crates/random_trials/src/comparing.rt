@@ -1,6 +1,5 @@
 // The count beside the slow count: strengths, the best, the order, the paths and the cuts of random files.
-use crate::bytes::Bytes;
-use crate::failure::Failure;
+use crate::failure::{Disagreement, Failure};
 use crate::random::Random;
 use crate::sheets::Verdicts;
 use crate::slow::{MOST, SlowCount};
@@ -20,23 +19,22 @@ const START: usize = 1;
 const NOBODY: u8 = 255;
 
 // A path is written exactly where there is one, with no candidate twice, and nothing is written around it.
-fn path_agrees(strengths: &Strengths, slow: &SlowCount, x: usize, y: usize) -> bool {
+fn path_agrees(strengths: &Strengths, slow: &SlowCount<'_>, x: usize, y: usize) -> bool {
     let mut lent = [NOBODY; LENT];
     let length = strengths.write_path(x, y, &mut lent, START);
-    let end = length.saturating_add(START);
-    for at in 0..LENT {
-        if (at < START || at >= end) && lent[at] != NOBODY {
-            return false;
-        }
-    }
-    match lent.get(START..end) {
-        Some(row) => slow.is_path(x, y, row) && !SlowCount::passes_twice(row),
+    let written = START..START + length;
+    let around_it = lent
+        .iter()
+        .enumerate()
+        .any(|(at, z)| !written.contains(&at) && *z != NOBODY);
+    match lent.get(written) {
+        Some(row) => !around_it && slow.is_path(x, y, row) && !SlowCount::passes_twice(row),
         None => false,
     }
 }
 
 // There is a cut for two different candidates, and for nobody else.
-fn cut_agrees(strengths: &Strengths, slow: &SlowCount, x: usize, y: usize) -> bool {
+fn cut_agrees(strengths: &Strengths, slow: &SlowCount<'_>, x: usize, y: usize) -> bool {
     let set = strengths.cut(x, y);
     if x == y || x >= slow.candidates || y >= slow.candidates {
         return set == 0;
@@ -44,55 +42,48 @@ fn cut_agrees(strengths: &Strengths, slow: &SlowCount, x: usize, y: usize) -> bo
     slow.is_cut(x, y, set)
 }
 
-fn orders_agree(strengths: &Strengths, slow: &SlowCount, tie_break: &TieBreak) -> bool {
+fn orders_agree(strengths: &Strengths, slow: &SlowCount<'_>, tie_break: &TieBreak) -> bool {
     let counted = best::full_order(strengths, tie_break);
     let expected = slow.order(&tie_break.keys);
-    for place in 0..MOST {
-        if counted.places[place] != expected[place] {
-            return false;
-        }
-    }
-    counted.candidates == slow.candidates
+    counted.candidates == slow.candidates && counted.places.starts_with(&expected)
 }
 
-// What the two counts do not agree in: strengths, paths, cuts and the best.
-fn disagreement(strengths: &Strengths, slow: &SlowCount) -> Option<&'static str> {
+// Whether the strengths, paths and cuts of all pairs and the best agree.
+fn compare_answers(strengths: &Strengths, slow: &SlowCount<'_>) -> Result<(), Disagreement> {
     for x in 0..MOST {
         for y in 0..MOST {
             if strengths.at(x, y) != slow.strength(x, y) {
-                return Some("strengths disagree");
+                return Err(Disagreement::Strengths);
             }
             if !path_agrees(strengths, slow, x, y) {
-                return Some("paths disagree");
+                return Err(Disagreement::Paths);
             }
             if !cut_agrees(strengths, slow, x, y) {
-                return Some("cuts disagree");
+                return Err(Disagreement::Cuts);
             }
         }
     }
     if best::best(strengths) != slow.best() {
-        return Some("best disagrees");
+        return Err(Disagreement::Best);
     }
-    None
+    Ok(())
 }
 
 // The same of the order too, by number and by another tie-break.
-fn compare(bytes: &[u8], slow: &SlowCount, other: &TieBreak) -> Option<&'static str> {
-    let Ok(pairwise) = pairwise::tally(bytes) else {
-        return Some("refused");
-    };
+fn compare(slow: &SlowCount<'_>, other: &TieBreak) -> Result<(), Disagreement> {
+    let pairwise = pairwise::tally(slow.bytes).map_err(|_| Disagreement::Refused)?;
     let strengths = Strengths::of(&pairwise);
     if !orders_agree(&strengths, slow, &TieBreak::by_number()) {
-        return Some("orders disagree");
+        return Err(Disagreement::Orders);
     }
     if !orders_agree(&strengths, slow, other) {
-        return Some("orders disagree by a tie-break");
+        return Err(Disagreement::TieBreakOrders);
     }
-    disagreement(&strengths, slow)
+    compare_answers(&strengths, slow)
 }
 
 // What came of the random files: how many have a strongest path over others, and the verdicts on damaged certificates.
-#[derive(Clone, Copy)]
+#[derive(Clone, Copy, Default)]
 struct Tally {
     over_others: u16,
     verdicts: Verdicts,
@@ -100,20 +91,21 @@ struct Tally {
 
 impl Tally {
     // Tries one random file.
-    fn trial(&mut self, random: &mut Random) -> Option<Failure> {
-        let file = random.file();
-        let bytes = file.all();
-        let slow = SlowCount::of(bytes);
-        if let Some(what) = compare(bytes, &slow, &random.tie_break()) {
-            return Some(Failure::new(what, &file, &Bytes::new()));
+    fn trial(&mut self, random: &mut Random) -> Result<(), Failure> {
+        let file = random.file()?;
+        let slow = SlowCount::of(&file);
+        if let Err(what) = compare(&slow, &random.tie_break()) {
+            let other = Vec::new(random.heap);
+            return Err(Failure::Trial { what, file, other });
         }
-        if let Some(sheet) = self.verdicts.wrong_sheet(random, bytes, &slow) {
-            return Some(Failure::new("sheets disagree", &file, &sheet));
+        if let Some(other) = self.verdicts.wrong_sheet(random, &slow)? {
+            let what = Disagreement::Sheets;
+            return Err(Failure::Trial { what, file, other });
         }
         if slow.goes_over_others() {
             self.over_others = self.over_others.saturating_add(1);
         }
-        None
+        Ok(())
     }
 
     fn print(&self, rt: &HostRuntime) -> io::Result<()> {
@@ -130,15 +122,11 @@ impl Tally {
     }
 }
 
-pub fn random_files(rt: &HostRuntime, random: &mut Random) -> io::Result<()> {
-    let mut tally = Tally {
-        over_others: 0,
-        verdicts: Verdicts::new(),
-    };
+pub fn random_files(rt: &HostRuntime, random: &mut Random) -> Result<(), Failure> {
+    let mut tally = Tally::default();
     for _ in 0..FILES {
-        if let Some(failure) = tally.trial(random) {
-            return failure.report(rt);
-        }
+        tally.trial(random)?;
     }
-    tally.print(rt)
+    tally.print(rt)?;
+    Ok(())
 }

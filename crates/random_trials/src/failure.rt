@@ -1,30 +1,42 @@
-// A trial that failed.
-use crate::bytes::Bytes;
+// Why the trials end early.
+use std::alloc::AllocError;
 use std::io;
+use thiserror::Error;
 
-// What the trial shows, the file, and what else it is about: a certificate, or the file when candidates are struck.
-#[derive(Clone, Copy)]
-pub struct Failure {
-    what: &'static str,
-    file: Bytes,
-    other: Bytes,
+// What the count and the slow count do not agree in.
+#[derive(Clone, Copy, Debug, Error)]
+pub enum Disagreement {
+    #[error("refused")]
+    Refused,
+    #[error("strengths disagree")]
+    Strengths,
+    #[error("paths disagree")]
+    Paths,
+    #[error("cuts disagree")]
+    Cuts,
+    #[error("best disagrees")]
+    Best,
+    #[error("orders disagree")]
+    Orders,
+    #[error("orders disagree by a tie-break")]
+    TieBreakOrders,
+    #[error("sheets disagree")]
+    Sheets,
+    #[error("striking disagrees")]
+    Striking,
 }
 
-impl Failure {
-    pub fn new(what: &'static str, file: &Bytes, other: &Bytes) -> Failure {
-        Failure {
-            what,
-            file: *file,
-            other: *other,
-        }
-    }
-
-    // Prints it, and ends the trials.
-    pub fn report(&self, rt: &HostRuntime) -> io::Result<()> {
-        let what = self.what;
-        let file = self.file.all();
-        let other = self.other.all();
-        println!(rt; "{what}: {file:?} {other:?}")?;
-        Err(io::Error::other("a trial failed"))
-    }
+#[derive(Debug, Drop, Error)]
+pub enum Failure {
+    // What else the trial is about is a certificate, or the file when candidates are struck.
+    #[error("{what}: {file:?} {other:?}")]
+    Trial {
+        what: Disagreement,
+        file: Vec<u8>,
+        other: Vec<u8>,
+    },
+    #[error(transparent)]
+    Memory(#[from(alloc)] AllocError),
+    #[error(transparent)]
+    Output(#[from] io::Error),
 }

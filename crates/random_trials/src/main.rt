@@ -2,7 +2,6 @@
 // compares that with the file stdout.
 #![tactic(auto)]
 
-mod bytes;
 mod clones;
 mod comparing;
 mod failure;
@@ -10,11 +9,22 @@ mod random;
 mod sheets;
 mod slow;
 
+use failure::Failure;
 use random::Random;
 use std::io;
 
+fn trials(rt: &HostRuntime) -> Result<(), Failure> {
+    let mut random = Random::new(rt.alloc());
+    comparing::random_files(rt, &mut random)?;
+    clones::clone_files(rt, &mut random)
+}
+
 fn main(rt: HostRuntime) -> io::Result<()> {
-    let mut random = Random::new();
-    comparing::random_files(&rt, &mut random)?;
-    clones::clone_files(&rt, &mut random)
+    match trials(&rt) {
+        Ok(()) => Ok(()),
+        Err(failure) => {
+            println!(rt; "{failure}")?;
+            Err(io::Error::other("a trial failed"))
+        }
+    }
 }

@@ -1,8 +1,10 @@
 // Random numbers, and random files of ballots: the same ones at every run.
-use crate::bytes::Bytes;
+ghost use Rattle.std.specs.Prelude.{◌≤◌, ◌-◌};
+ghost use Rattle.random_trials.specs.declared.random.TheConstants.{MOST_LEVELS};
+
 use crate::slow::MOST;
-use ballots::MOST_CANDIDATES;
 use best::TieBreak;
+use std::alloc::{AllocError, Global};
 
 // Where the numbers begin.
 const SEED: u64 = 0x9e37_79b9_7f4a_7c15;
@@ -10,9 +12,13 @@ const SEED: u64 = 0x9e37_79b9_7f4a_7c15;
 // The greatest number of ballots of a random file.
 const MOST_BALLOTS: u8 = 40;
 
-// The generator xorshift64*.
+// The greatest number of levels, and so the greatest rank, of a random file.
+pub const MOST_LEVELS: u8 = 60;
+
+// The generator xorshift64*, and where the files are made.
 #[derive(Drop)]
 pub struct Random {
+    pub heap: Global,
     state: u64,
 }
 
@@ -21,11 +27,12 @@ pub struct Random {
 pub struct Ranks {
     pub levels: u8,
     pub blank_in: u8,
+    ghost few: { levels ≤ MOST_LEVELS },
 }
 
 impl Random {
-    pub fn new() -> Random {
-        Random { state: SEED }
+    pub fn new(heap: Global) -> Random {
+        Random { heap, state: SEED }
     }
 
     fn number(&mut self) -> u64 {
@@ -38,7 +45,9 @@ impl Random {
     }
 
     // A number below the limit; 0 where there is none.
-    pub fn below(&mut self, limit: u8) -> u8 {
+    pub fn below(&mut self, limit: u8) -> u8
+        ensures { result ≤ limit - 1 }
+    {
         if limit == 0 {
             return 0;
         }
@@ -69,7 +78,7 @@ impl Random {
             0 => 2,
             1 => 3,
             2 => 6,
-            _ => 60,
+            _ => MOST_LEVELS,
         };
         let blank_in = match self.below(3) {
             0 => 2,
@@ -79,11 +88,13 @@ impl Random {
         Ranks { levels, blank_in }
     }
 
-    pub fn rank(&mut self, ranks: Ranks) -> u8 {
+    pub fn rank(&mut self, ranks: Ranks) -> u8
+        ensures { result ≤ MOST_LEVELS }
+    {
         if self.once_in(ranks.blank_in) {
             0
         } else {
-            self.below(ranks.levels).saturating_add(1)
+            self.below(ranks.levels) + 1
         }
     }
 
@@ -97,25 +108,23 @@ impl Random {
     }
 
     // A file of one candidate at least, and at most as many as the slow count takes.
-    pub fn file(&mut self) -> Bytes {
-        let candidates = self.below(MOST as u8).saturating_add(1);
+    pub fn file(&mut self) -> Result<Vec<u8>, AllocError> {
+        let candidates = self.below(MOST as u8) + 1;
         let ballots = self.ballots();
         let ranks = self.ranks();
-        let mut file = Bytes::header(candidates, ballots);
+        let mut file = vec![in self.heap; candidates, ballots, 0]?;
         for _ in 0..ballots {
             for _ in 0..candidates {
-                file.push(self.rank(ranks));
+                file.push(self.rank(ranks))?;
             }
         }
-        file
+        Ok(file)
     }
 
     // A tie-break order, in which some keys are equal.
     pub fn tie_break(&mut self) -> TieBreak {
-        let mut keys = [0u8; MOST_CANDIDATES];
-        for x in 0..MOST_CANDIDATES {
-            keys[x] = self.below(5);
+        TieBreak {
+            keys: std::array::from_fn(|_| self.below(5)),
         }
-        TieBreak { keys }
     }
 }

@@ -1,179 +1,190 @@
 // The certificates of random files, as they are written and damaged. They are judged by a reader that shares no code with
 // the writer and the checker.
-use crate::bytes::Bytes;
+ghost use Rattle.std.specs.Prelude.{◌≤◌, length, IfSome};
+
 use crate::random::Random;
-use crate::slow::SlowCount;
+use crate::slow::{MOST, SlowCount};
 use certificate::{certify, check};
 use pairwise::CELLS;
+use std::alloc::AllocError;
 
 // How often the certificate of a file is damaged, each time as it was written.
 const DAMAGES: u8 = 10;
 
+// How many bytes there is room for in a certificate: the longest one.
+const ROOM: usize = 1 + MOST * MOST * 2 + MOST * (MOST - 1) * (7 + MOST) + 4;
+
 // How many of the damaged certificates were refused, how many were accepted, and how many of these have a path that
 // passes a candidate twice.
-#[derive(Clone, Copy)]
+#[derive(Clone, Copy, Default)]
 pub struct Verdicts {
     pub refused: u32,
     pub accepted: u32,
     pub twice: u32,
 }
 
-// A certificate, how far it was read, and whether its paths may pass a candidate twice. Bytes that are missing are read
-// as 0, and make the place pass the length.
-#[derive(Drop)]
-struct Reader<'a> {
-    sheet: &'a [u8],
-    at: usize,
-    twice: bool,
+// What a certificate says of a pair: the strength, the path that shows it and the cut that bounds it.
+#[derive(Clone, Copy)]
+struct Entry<'a> {
+    strength: u16,
+    row: &'a [u8],
+    cut: u32,
 }
 
-impl Reader<'_> {
-    fn new(sheet: &[u8], twice: bool) -> Reader<'_> {
-        Reader {
-            sheet,
-            at: 0,
-            twice,
-        }
+impl Entry<'_> {
+    fn is_right(&self, slow: &SlowCount<'_>, x: usize, y: usize, twice: bool) -> bool {
+        self.strength == slow.strength(x, y)
+            && slow.is_path(x, y, self.row)
+            && (twice || !SlowCount::passes_twice(self.row))
+            && slow.is_cut(x, y, self.cut)
+    }
+}
+
+// What of a certificate was not read yet.
+#[derive(Drop)]
+struct Reader<'a> {
+    rest: &'a [u8],
+}
+
+impl<'a> Reader<'a> {
+    // The next bytes; nothing where some are missing, as with all that is read.
+    fn take(&mut self, length: usize) -> Option<&'a [u8]> {
+        let (taken, rest) = self.rest.split_at_checked(length)?;
+        self.rest = rest;
+        Some(taken)
     }
 
-    fn byte(&mut self) -> u8 {
-        let byte = self.sheet.get(self.at).copied().unwrap_or(0);
-        self.at = self.at.saturating_add(1);
-        byte
+    fn array<const N: usize>(&mut self) -> Option<[u8; N]> {
+        let (first, rest) = self.rest.split_first_chunk()?;
+        self.rest = rest;
+        Some(*first)
     }
 
-    fn number(&mut self) -> u16 {
-        let low = self.byte();
-        let high = self.byte();
-        u16::from_le_bytes([low, high])
+    fn byte(&mut self) -> Option<u8> {
+        let [byte] = self.array::<1>()?;
+        Some(byte)
     }
 
-    fn set(&mut self) -> u32 {
-        let low = self.number();
-        let high = self.number();
-        u32::from(high) << 16 | u32::from(low)
+    fn number(&mut self) -> Option<u16> {
+        Some(u16::from_le_bytes(self.array()?))
+    }
+
+    fn set(&mut self) -> Option<u32> {
+        Some(u32::from_le_bytes(self.array()?))
+    }
+
+    fn entry(&mut self) -> Option<Entry<'a>> {
+        let strength = self.number()?;
+        let length = self.byte()?;
+        let row = self.take(usize::from(length))?;
+        let cut = self.set()?;
+        Some(Entry { strength, row, cut })
     }
 
     // Whether the table is that of the slow count.
-    fn table(&mut self, slow: &SlowCount) -> bool {
-        let mut same = true;
+    fn has_table(&mut self, slow: &SlowCount<'_>) -> bool {
         for x in 0..slow.candidates {
             for y in 0..slow.candidates {
-                let number = self.number();
-                same = same && number == slow.preferring(x, y);
-            }
-        }
-        same
-    }
-
-    // Whether the strength of x and y is that of the slow count, the path shows it, and the cut bounds it.
-    fn entry(&mut self, slow: &SlowCount, x: usize, y: usize) -> bool {
-        let strength = self.number();
-        let length = self.byte();
-        let start = self.at;
-        self.at = start.saturating_add(usize::from(length));
-        let row = self.sheet.get(start..self.at).unwrap_or(&[]);
-        let path = slow.is_path(x, y, row) && (self.twice || !SlowCount::passes_twice(row));
-        let cut = self.set();
-        strength == slow.strength(x, y) && path && slow.is_cut(x, y, cut)
-    }
-
-    fn entries(&mut self, slow: &SlowCount) -> bool {
-        let mut right = true;
-        for x in 0..slow.candidates {
-            for y in 0..slow.candidates {
-                if x != y {
-                    let entry = self.entry(slow, x, y);
-                    right = right && entry;
+                if self.number() != Some(slow.preferring(x, y)) {
+                    return false;
                 }
             }
         }
-        right
+        true
+    }
+
+    // Whether the entries are right; their paths may pass a candidate twice where that is said.
+    fn has_entries(&mut self, slow: &SlowCount<'_>, twice: bool) -> bool {
+        for x in 0..slow.candidates {
+            for y in 0..slow.candidates {
+                if x != y
+                    && !self
+                        .entry()
+                        .is_some_and(|entry| entry.is_right(slow, x, y, twice))
+                {
+                    return false;
+                }
+            }
+        }
+        true
     }
 }
 
 // Whether the certificate has all that it should have, with nothing behind it.
-fn is_as_said(slow: &SlowCount, sheet: &[u8], twice: bool) -> bool {
-    let mut reader = Reader::new(sheet, twice);
-    let candidates = usize::from(reader.byte());
-    let table = reader.table(slow);
-    let entries = reader.entries(slow);
-    let best = reader.set();
-    candidates == slow.candidates
-        && table
-        && entries
-        && best == slow.best()
-        && reader.at == sheet.len()
+fn is_as_said(slow: &SlowCount<'_>, sheet: &[u8], twice: bool) -> bool {
+    let mut reader = Reader { rest: sheet };
+    reader.byte().map(usize::from) == Some(slow.candidates)
+        && reader.has_table(slow)
+        && reader.has_entries(slow, twice)
+        && reader.set() == Some(slow.best())
+        && reader.rest.is_empty()
 }
 
 // What a byte is changed by: anything, a bit, or a little, as a candidate or a small cut becomes another one.
 fn change(random: &mut Random) -> u8 {
     match random.below(3) {
-        0 => random.below(255).saturating_add(1),
+        0 => random.below(255) + 1,
         1 => 1u8.rotate_left(u32::from(random.below(8))),
-        _ => random.below(7).saturating_add(1),
+        _ => random.below(7) + 1,
     }
 }
 
 // The certificate with one byte changed.
-fn changed(random: &mut Random, sheet: &Bytes) -> Bytes {
-    let mut other = *sheet;
-    if let Some(byte) = other.room.get_mut(random.place(sheet.length)) {
+fn changed(random: &mut Random, sheet: &[u8]) -> Result<Vec<u8>, AllocError> {
+    let mut other = sheet.to_vec(random.heap)?;
+    if let Some(byte) = other.get_mut(random.place(sheet.len())) {
         *byte ^= change(random);
     }
-    other
+    Ok(other)
 }
 
 // The certificate with one byte less, or one more.
-fn resized(random: &mut Random, sheet: &Bytes) -> Bytes {
-    let mut other = *sheet;
+fn resized(random: &mut Random, sheet: &[u8]) -> Result<Vec<u8>, AllocError> {
+    let mut other = sheet.to_vec(random.heap)?;
     if random.once_in(2) {
-        other.length = other.length.saturating_sub(1);
+        let _ = other.pop();
     } else {
-        other.push(random.below(2));
+        other.push(random.below(2))?;
     }
-    other
+    Ok(other)
 }
 
 // The place of the length of some path.
-fn path_place(random: &mut Random, sheet: &Bytes) -> usize {
-    let mut reader = Reader::new(sheet.all(), true);
-    let candidates = usize::from(reader.byte());
-    let numbers = candidates.wrapping_mul(candidates);
-    reader.at = reader.at.wrapping_add(numbers.wrapping_mul(2));
-    for _ in 0..random.place(numbers.wrapping_sub(candidates)) {
-        let _ = reader.number();
-        let length = reader.byte();
-        reader.at = reader.at.wrapping_add(usize::from(length)).wrapping_add(4);
+fn path_place(random: &mut Random, sheet: &[u8]) -> Option<usize>
+    ensures { IfSome result (λ place. place ≤ length sheet.now) }
+{
+    let mut reader = Reader { rest: sheet };
+    let candidates = usize::from(reader.byte()?);
+    let _ = reader.take(candidates * candidates * 2)?;
+    for _ in 0..random.place(candidates * candidates.saturating_sub(1)) {
+        let _ = reader.entry()?;
     }
-    reader.at.wrapping_add(2)
+    let _ = reader.number()?;
+    Some(sheet.len().saturating_sub(reader.rest.len()))
 }
 
 // The certificate with a detour put into some path: from a candidate on it over two others and back.
-fn lengthened(random: &mut Random, sheet: &Bytes) -> Bytes {
-    let place = path_place(random, sheet);
-    let length = sheet.at(place);
-    let turn = place
-        .wrapping_add(1)
-        .wrapping_add(usize::from(random.below(length)));
-    let mut other = Bytes::new();
-    for at in 0..sheet.length {
-        let byte = sheet.at(at);
-        other.push(if at == place {
-            byte.wrapping_add(3)
+fn lengthened(random: &mut Random, sheet: &[u8]) -> Result<Vec<u8>, AllocError> {
+    let place = path_place(random, sheet).unwrap_or(0);
+    let length = sheet.get(place).copied().unwrap_or(0);
+    let candidates = sheet.first().copied().unwrap_or(0);
+    let turn = place + 1 + usize::from(random.below(length));
+    let mut other = Vec::new(random.heap);
+    for (at, byte) in sheet.iter().enumerate() {
+        if at == place {
+            other.push(byte.wrapping_add(3))?;
         } else {
-            byte
-        });
+            other.push(*byte)?;
+        }
         if at == turn {
-            other.push(random.below(sheet.at(0)));
-            other.push(random.below(sheet.at(0)));
-            other.push(byte);
+            let detour = [random.below(candidates), random.below(candidates), *byte];
+            other.extend_from_slice(&detour)?;
         }
     }
-    other
+    Ok(other)
 }
 
-fn damaged(random: &mut Random, sheet: &Bytes) -> Bytes {
+fn damaged(random: &mut Random, sheet: &[u8]) -> Result<Vec<u8>, AllocError> {
     match random.below(8) {
         0 => resized(random, sheet),
         1 | 2 => lengthened(random, sheet),
@@ -182,17 +193,9 @@ fn damaged(random: &mut Random, sheet: &Bytes) -> Bytes {
 }
 
 impl Verdicts {
-    pub fn new() -> Verdicts {
-        Verdicts {
-            refused: 0,
-            accepted: 0,
-            twice: 0,
-        }
-    }
-
     // Whether the checker accepts the certificate exactly if it is as said; its verdict is counted.
-    fn agrees(&mut self, bytes: &[u8], slow: &SlowCount, sheet: &[u8]) -> bool {
-        let accepted = check(bytes, sheet).is_ok();
+    fn agrees(&mut self, slow: &SlowCount<'_>, sheet: &[u8]) -> bool {
+        let accepted = check(slow.bytes, sheet).is_ok();
         let right = is_as_said(slow, sheet, true);
         let simple = is_as_said(slow, sheet, false);
         self.refused = self.refused.saturating_add(u32::from(!accepted));
@@ -205,39 +208,37 @@ impl Verdicts {
     fn wrong_on(
         &mut self,
         random: &mut Random,
-        bytes: &[u8],
-        slow: &SlowCount,
-        sheet: &Bytes,
-    ) -> Option<Bytes> {
+        slow: &SlowCount<'_>,
+        sheet: &[u8],
+    ) -> Result<Option<Vec<u8>>, AllocError> {
         for _ in 0..DAMAGES {
-            let other = damaged(random, sheet);
-            if !self.agrees(bytes, slow, other.all()) {
-                return Some(other);
+            let other = damaged(random, sheet)?;
+            if !self.agrees(slow, &other) {
+                return Ok(Some(other));
             }
         }
-        None
+        Ok(None)
     }
 
     // The certificate that is wrong, or that the checker is wrong on.
     pub fn wrong_sheet(
         &mut self,
         random: &mut Random,
-        bytes: &[u8],
-        slow: &SlowCount,
-    ) -> Option<Bytes> {
+        slow: &SlowCount<'_>,
+    ) -> Result<Option<Vec<u8>>, AllocError> {
         let mut table = [0u16; CELLS];
         let mut strengths = [0u16; CELLS];
-        let mut sheet = Bytes::new();
-        let Ok(certified) = certify(bytes, &mut table, &mut strengths, &mut sheet.room) else {
-            return Some(sheet);
+        let mut sheet = vec![in random.heap; 0u8; ROOM]?;
+        let Ok(certified) = certify(slow.bytes, &mut table, &mut strengths, &mut sheet) else {
+            return Ok(Some(sheet));
         };
-        sheet.length = certified.length;
-        if certified.best != slow.best() || !is_as_said(slow, sheet.all(), false) {
-            return Some(sheet);
+        sheet.truncate(certified.length);
+        if certified.best != slow.best()
+            || !is_as_said(slow, &sheet, false)
+            || check(slow.bytes, &sheet).is_err()
+        {
+            return Ok(Some(sheet));
         }
-        if check(bytes, sheet.all()).is_err() {
-            return Some(sheet);
-        }
-        self.wrong_on(random, bytes, slow, &sheet)
+        self.wrong_on(random, slow, &sheet)
     }
 }

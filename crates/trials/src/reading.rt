@@ -3,7 +3,7 @@ use anyhow::anyhow;
 use ballots::MOST_CANDIDATES;
 use pairwise::Pairwise;
 
-// 4 × (1 2 3), 3 × (3 1 2), 2 × (2 3 1)
+// 4 × (1 2 3), 3 × (3 1 2), 2 × (2 3 1). It stands in cases too: a library for one file of ballots is no plainer.
 const CIRCLE: [u8; 30] = [
     3, 9, 0, 1, 2, 3, 1, 2, 3, 1, 2, 3, 1, 2, 3, 3, 1, 2, 3, 1, 2, 3, 1, 2, 2, 3, 1, 2, 3, 1,
 ];
@@ -72,9 +72,7 @@ pub fn greatest(rt: &HostRuntime) -> anyhow::Result<()> {
 
 // The table copied into slices that are one too short, and one longer than it takes.
 pub fn lent(rt: &HostRuntime) -> anyhow::Result<()> {
-    let Ok(pairwise) = pairwise::tally(&CIRCLE) else {
-        return Err(anyhow!("the circle is refused"));
-    };
+    let pairwise = pairwise::tally(&CIRCLE).map_err(|refusal| anyhow!("{refusal}"))?;
     let mut short = [7u16; 8];
     if let Err(refusal) = pairwise.copy_to(&mut short) {
         println!(rt; "room for 8: {refusal}, {short:?}")?;

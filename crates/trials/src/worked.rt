@@ -4,6 +4,58 @@ use ballots::MOST_CANDIDATES;
 use best::{Order, TieBreak};
 use paths::Strengths;
 
+// A count by its name, its number of candidates and its ballots.
+const WORKED: [(&str, u8, &[Group<'static>]); 7] = [
+    (
+        "A",
+        3,
+        &[
+            Group(4, &[1, 2, 3]),
+            Group(3, &[3, 1, 2]),
+            Group(2, &[2, 3, 1]),
+        ],
+    ),
+    ("B", 2, &[Group(3, &[1, 2]), Group(3, &[2, 1])]),
+    (
+        "C",
+        3,
+        &[
+            Group(5, &[1, 2, 2]),
+            Group(4, &[2, 1, 1]),
+            Group(1, &[2, 2, 1]),
+        ],
+    ),
+    (
+        "D",
+        4,
+        &[
+            Group(3, &[1, 2, 3, 4]),
+            Group(3, &[4, 1, 2, 3]),
+            Group(3, &[3, 4, 1, 2]),
+        ],
+    ),
+    ("E", 3, &[]),
+    (
+        "F",
+        4,
+        &[
+            Group(2, &[1, 3, 4, 2]),
+            Group(2, &[2, 3, 4, 1]),
+            Group(3, &[3, 1, 2, 4]),
+            Group(2, &[2, 4, 1, 3]),
+        ],
+    ),
+    (
+        "G",
+        4,
+        &[
+            Group(5, &[1, 2, 3, 4]),
+            Group(4, &[2, 1, 4, 3]),
+            Group(2, &[3, 1, 2, 4]),
+        ],
+    ),
+];
+
 fn print_set(rt: &HostRuntime, set: u32) -> anyhow::Result<()> {
     for x in 0..MOST_CANDIDATES {
         if ballots::holds(set, x) {
@@ -14,8 +66,7 @@ fn print_set(rt: &HostRuntime, set: u32) -> anyhow::Result<()> {
 }
 
 fn print_order(rt: &HostRuntime, order: &Order) -> anyhow::Result<()> {
-    for place in 0..order.candidates {
-        let x = order.places[place];
+    for x in order.places.iter().take(order.candidates) {
         print!(rt; " {x}")?;
     }
     Ok(())
@@ -60,119 +111,8 @@ fn print_worked(
 }
 
 pub fn all(rt: &HostRuntime) -> anyhow::Result<()> {
-    print_worked(
-        rt,
-        "A",
-        3,
-        &[
-            Group {
-                times: 4,
-                ranks: &[1, 2, 3],
-            },
-            Group {
-                times: 3,
-                ranks: &[3, 1, 2],
-            },
-            Group {
-                times: 2,
-                ranks: &[2, 3, 1],
-            },
-        ],
-    )?;
-    print_worked(
-        rt,
-        "B",
-        2,
-        &[
-            Group {
-                times: 3,
-                ranks: &[1, 2],
-            },
-            Group {
-                times: 3,
-                ranks: &[2, 1],
-            },
-        ],
-    )?;
-    print_worked(
-        rt,
-        "C",
-        3,
-        &[
-            Group {
-                times: 5,
-                ranks: &[1, 2, 2],
-            },
-            Group {
-                times: 4,
-                ranks: &[2, 1, 1],
-            },
-            Group {
-                times: 1,
-                ranks: &[2, 2, 1],
-            },
-        ],
-    )?;
-    print_worked(
-        rt,
-        "D",
-        4,
-        &[
-            Group {
-                times: 3,
-                ranks: &[1, 2, 3, 4],
-            },
-            Group {
-                times: 3,
-                ranks: &[4, 1, 2, 3],
-            },
-            Group {
-                times: 3,
-                ranks: &[3, 4, 1, 2],
-            },
-        ],
-    )?;
-    print_worked(rt, "E", 3, &[])?;
-    print_worked(
-        rt,
-        "F",
-        4,
-        &[
-            Group {
-                times: 2,
-                ranks: &[1, 3, 4, 2],
-            },
-            Group {
-                times: 2,
-                ranks: &[2, 3, 4, 1],
-            },
-            Group {
-                times: 3,
-                ranks: &[3, 1, 2, 4],
-            },
-            Group {
-                times: 2,
-                ranks: &[2, 4, 1, 3],
-            },
-        ],
-    )?;
-    print_worked(
-        rt,
-        "G",
-        4,
-        &[
-            Group {
-                times: 5,
-                ranks: &[1, 2, 3, 4],
-            },
-            Group {
-                times: 4,
-                ranks: &[2, 1, 4, 3],
-            },
-            Group {
-                times: 2,
-                ranks: &[3, 1, 2, 4],
-            },
-        ],
-    )
+    for (name, candidates, groups) in WORKED {
+        print_worked(rt, name, candidates, groups)?;
+    }
+    Ok(())
 }

@@ -5,4 +5,4 @@ use Rattle.best.proofs.orders.full_order.Given as goal
 
 abbrev pub invariant-loop-place : goal.invariant-loop-place
 invariant-loop-place l =
-    Made (win_in l.strengths.pairwise) l.candidates (before_by l.tie_break.keys) l.place l.left l.places
+    Made (win_in l.strengths.pairwise) l.strengths.pairwise.counts.candidates (before_by l.tie_break.keys) l._place l.left l.places.items

@@ -1,5 +1,5 @@
 use Rattle.std.proofs.Common.{◌≡◌, ◌&&◌}
-use Rattle.paths.specs.Strengths.{strength_in}
+use Rattle.pairwise.specs.Grids.{entry}
 use Rattle.best.specs.Compared.{before_by, unbeaten_by, first_below}
 use Rattle.best.proofs.Making.{marked}
 use Rattle.best.proofs.orders.next.Given as goal
@@ -7,5 +7,5 @@ use Rattle.best.proofs.orders.next.Given as goal
 abbrev pub invariant-loop-x : goal.invariant-loop-x
 invariant-loop-x l =
     l.found ≡ first_below (before_by l.tie_break.keys)
-    (λ x. marked l.left x && unbeaten_by (strength_in l.strengths.pairwise) l.strengths.pairwise.counts.candidates (marked l.left) x)
+    (λ x. marked l.left x && unbeaten_by (entry l.strengths) l.strengths.candidates (marked l.left) x)
     l.x

@@ -1,24 +1,33 @@
-use Rattle.std.proofs.Common.{sym, refl, ◌∙◌}
+use Rattle.std.proofs.Common.{ap, ◌∙◌}
 use Rattle.std.proofs.lemmas.Result.{err_from_is_err_and}
-use Rattle.certificate.proofs.Fronts.{entries_at, table_refused, entries_refused, up_to_best}
+use Rattle.ballots.specs.Lending.{answered}
+use Rattle.certificate.proofs.Fronts.{table_refused, entries_at, entries_refused, up_to_best}
+use Rattle.certificate.proofs.Keeping.{kept_still}
 use Rattle.certificate.proofs.checks.check_against.Goals as goal
 
-pub returns-in_err-entries_at : goal.returns-in_err-entries_at
-returns-in_err-entries_at c =
+pub returns-in_err-check_table : goal.returns-in_err-check_table
+returns-in_err-check_table c =
     let p = err_from_is_err_and c.from_residual.result c.from_residual.ensures.1 in
-    rw (p.1, p.2) (sym (table_refused c.args.table.now _ _ (sym c.in_err-entries_at.ensures)))
+    rw (p.1, p.2) (table_refused c.args.table.now c.args.sheet.now _ _ c.new-reader.ensures.front c.new-reader.ensures.whole c.in_err-check_table.ensures)
 
 pub check_entries-requires : goal.check_entries-requires
 check_entries-requires c =
-    record { here = entries_at c.args.table.now _ _ (sym c.in_ok-entries_at.ensures); room = refl }
+    entries_at c.args.table.now c.args.sheet.now _ _ c.new-reader.ensures.front c.new-reader.ensures.whole c.in_ok-check_table.ensures
 
-pub returns-in_err-best_at : goal.returns-in_err-best_at
-returns-in_err-best_at c =
-    let p = err_from_is_err_and c.from_residual-in_err-best_at.result c.from_residual-in_err-best_at.ensures.1 in
-    rw (p.1, p.2)
-    (sym (entries_refused c.args.table.now _ _ _ (sym c.in_ok-entries_at.ensures) (sym c.in_err-best_at.ensures.answer)))
+pub returns-in_err-strengths : goal.returns-in_err-strengths
+returns-in_err-strengths c =
+    let p = err_from_is_err_and c.from_residual-in_err-strengths.result c.from_residual-in_err-strengths.ensures.1 in
+    rw (p.1, p.2) (entries_refused c.args.table.now c.args.sheet.now _ _ c.new-reader.ensures.front c.new-reader.ensures.whole c.in_ok-check_table.ensures _ _ c.in_err-strengths.ensures.moved)
+
+pub check_best-requires : goal.check_best-requires
+check_best-requires c =
+    let k = c.in_ok-strengths.ensures in
+    record {
+      here = rw (k.kept.candidates, k.moved.same) k.moved.stop;
+      kept = kept_still _ _ _ _ k.moved.same k.kept;
+    }
 
 pub returns : goal.returns
 returns c =
-    c.check_best.ensures
-    ∙ sym (up_to_best c.args.table.now _ _ _ (sym c.in_ok-entries_at.ensures) (sym c.in_ok-best_at.ensures.answer))
+    let u = up_to_best c.args.table.now c.args.sheet.now _ _ c.new-reader.ensures.front c.new-reader.ensures.whole c.in_ok-check_table.ensures _ _ c.in_ok-strengths.ensures.moved in
+    c.check_best.ensures ∙ rw c.in_ok-strengths.ensures.kept.candidates (ap (λ o. answered o tt) u.1)

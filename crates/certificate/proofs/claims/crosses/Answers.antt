@@ -1,15 +1,12 @@
 use Rattle.std.proofs.Common.{arith}
 use Rattle.certificate.specs.Judge.{crosses}
 use Rattle.certificate.proofs.claims.crosses.Goals as goal
+use Rattle.certificate.proofs.claims.crosses.Goals.{then-holds, else-holds}
 
 pub returns-then-not-holds : goal.returns-then-not-holds
 unfolding crosses
-returns-then-not-holds c = grind arith
+returns-then-not-holds c = elim c.if-holds.branch [ then-holds w ↦ grind arith | else-holds w ↦ grind arith ]
 
-pub returns-then-holds : goal.returns-then-holds
+pub returns-else-not-holds : goal.returns-else-not-holds
 unfolding crosses
-returns-then-holds c = grind arith
-
-pub returns : goal.returns
-unfolding crosses
-returns c = grind arith
+returns-else-not-holds c = elim c.if-holds.branch [ then-holds w ↦ grind arith | else-holds w ↦ grind arith ]

@@ -1,10 +1,8 @@
-use Rattle.std.proofs.Common.{◌≡◌, drop}
 use Rattle.pairwise.specs.Tables.{win_in}
-use Rattle.certificate.specs.Judge.{is_path}
-use Rattle.certificate.proofs.Follow.{follow}
+use Rattle.certificate.proofs.Follow.{none_beyond, Followed}
 use Rattle.certificate.proofs.claims.is_path.Given as goal
 
-abbrev pub invariant-loop-i : goal.invariant-loop-i
-invariant-loop-i l =
-    follow (win_in l.table) l.table.counts.candidates l.y l.strength l.last l.weakest (drop l.i l.row)
-    ≡ is_path (win_in l.table) l.table.counts.candidates l.x l.y l.strength l.row
+abbrev pub invariant-loop-next : goal.invariant-loop-next
+invariant-loop-next l =
+    Followed (win_in l.table) l.table.counts.candidates l.y l.strength (none_beyond l.table)
+    l.x 65535 l.row l.rest l.next-index l.last l.weakest

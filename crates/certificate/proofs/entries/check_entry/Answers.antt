@@ -1,22 +1,35 @@
 use Rattle.std.proofs.Common.{arith}
 use Rattle.std.proofs.lemmas.Bool.Decides.{nat_tests}
-use Rattle.certificate.proofs.Places.{entry_at}
+use Rattle.certificate.specs.Judge.{entry_demands}
+use Rattle.certificate.proofs.Places.{place_next}
 use Rattle.certificate.proofs.entries.check_entry.Goals as goal
 
-pub returns-then-end-at-lt3 : goal.returns-then-end-at-lt3
-returns-then-end-at-lt3 c = rw (entry_at _ _ _ _ _ _ c.requires.here.is c.requires.pair.1.1) (grind (arith, nat_tests))
+pub returns-in_err-strength-clause-moved : goal.returns-in_err-strength-clause-moved
+unfolding entry_demands
+returns-in_err-strength-clause-moved c = record { refusal = grind (arith, nat_tests); stop = grind (arith, nat_tests); same = grind (arith, nat_tests) }
 
-pub returns-then-end-path_at : goal.returns-then-end-path_at
-returns-then-end-path_at c = rw (entry_at _ _ _ _ _ _ c.requires.here.is c.requires.pair.1.1) (grind (arith, nat_tests))
+pub returns-in_err-count-clause-moved : goal.returns-in_err-count-clause-moved
+unfolding entry_demands
+returns-in_err-count-clause-moved c = record { refusal = grind (arith, nat_tests); stop = grind (arith, nat_tests); same = grind (arith, nat_tests) }
 
-pub returns-then-not-is_path : goal.returns-then-not-is_path
-returns-then-not-is_path c = rw (entry_at _ _ _ _ _ _ c.requires.here.is c.requires.pair.1.1) (grind (arith, nat_tests))
+pub returns-in_err-path-clause-moved : goal.returns-in_err-path-clause-moved
+unfolding entry_demands
+returns-in_err-path-clause-moved c = record { refusal = grind (arith, nat_tests); stop = grind (arith, nat_tests); same = grind (arith, nat_tests) }
 
-pub returns-then-end-cut_at-lt4 : goal.returns-then-end-cut_at-lt4
-returns-then-end-cut_at-lt4 c = rw (entry_at _ _ _ _ _ _ c.requires.here.is c.requires.pair.1.1) (grind (arith, nat_tests))
+pub returns-then-not-is_path-clause-moved : goal.returns-then-not-is_path-clause-moved
+unfolding entry_demands
+returns-then-not-is_path-clause-moved c = record { refusal = grind (arith, nat_tests); stop = grind (arith, nat_tests); same = grind (arith, nat_tests) }
 
-pub returns-then-not-is_cut : goal.returns-then-not-is_cut
-returns-then-not-is_cut c = rw (entry_at _ _ _ _ _ _ c.requires.here.is c.requires.pair.1.1) (grind (arith, nat_tests))
+pub returns-in_err-cut-clause-moved : goal.returns-in_err-cut-clause-moved
+unfolding entry_demands
+returns-in_err-cut-clause-moved c = record { refusal = grind (arith, nat_tests); stop = grind (arith, nat_tests); same = grind (arith, nat_tests) }
 
-pub returns : goal.returns
-returns c = rw (entry_at _ _ _ _ _ _ c.requires.here.is c.requires.pair.1.1) (grind (arith, nat_tests))
+pub returns-then-not-is_cut-clause-moved : goal.returns-then-not-is_cut-clause-moved
+unfolding entry_demands
+returns-then-not-is_cut-clause-moved c = record { refusal = grind (arith, nat_tests); stop = grind (arith, nat_tests); same = grind (arith, nat_tests) }
+
+pub returns-clause-moved : goal.returns-clause-moved
+unfolding entry_demands
+returns-clause-moved c =
+    let e = place_next c.args.table.now.counts.candidates c.args.reader.now.sheet.now _ _ c.requires.pair.1.1 in
+    record { refusal = grind (arith, nat_tests); stop = grind (arith, nat_tests); same = grind (arith, nat_tests) }

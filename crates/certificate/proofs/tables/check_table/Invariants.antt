@@ -1,10 +1,16 @@
-use Rattle.std.proofs.Common.{◌≡◌, ◌-◌}
-use Rattle.std.specs.List.{range_with_len, flat_map}
-use Rattle.certificate.specs.Parts.{row_bytes, front_bytes}
-use Rattle.certificate.specs.Progress.{past}
+use Rattle.std.proofs.Common.{◌∷◌, Ok}
+use Rattle.pairwise.specs.Grids.{entry}
+use Rattle.certificate.specs.Layout.{two_bytes}
+use Rattle.certificate.specs.Progress.{Passes}
+use Rattle.certificate.proofs.Pairs.{before}
 use Rattle.certificate.proofs.tables.check_table.Given as goal
 
 abbrev pub invariant-loop-x : goal.invariant-loop-x
 invariant-loop-x l =
-    past l.sheet l.at (flat_map (row_bytes l.table) (range_with_len l.x (l.table.counts.candidates - l.x)))
-    ≡ past l.sheet 0 (front_bytes l.table)
+    Passes (l.table.counts.candidates ∷ before l.table.counts.candidates (λ x y. two_bytes (entry l.table.counts x y)) l.x 0)
+    l.fn.reader l.reader (Ok tt)
+
+abbrev pub invariant-loop-y : goal.invariant-loop-y
+invariant-loop-y l =
+    Passes (l.table.counts.candidates ∷ before l.table.counts.candidates (λ x y. two_bytes (entry l.table.counts x y)) l.x l.y)
+    l.fn.reader l.reader (Ok tt)

@@ -1,23 +1,25 @@
-use Rattle.std.proofs.Common.{arith}
+use Rattle.std.proofs.Common.{length, refl, ap, arith, rules}
 use Rattle.certificate.proofs.Lengths.{front_length, entries_fit, wrote_certificate}
+use Rattle.certificate.proofs.Writing.{put_as, put_left}
 use Rattle.certificate.proofs.writes.write_certificate.Goals as goal
 
-pub write_table-entries_at-requires : goal.write_table-entries_at-requires
-write_table-entries_at-requires c =
+pub write_table-requires : goal.write_table-requires
+write_table-requires c =
     let n = front_length c.args.strengths.now.pairwise in let m = entries_fit c.args.strengths.now.pairwise in omega (arith, c.requires)
 
-pub write_entries-best_at-requires : goal.write_entries-best_at-requires
-write_entries-best_at-requires c =
+pub write_entries-requires : goal.write_entries-requires
+write_entries-requires c =
     let n = front_length c.args.strengths.now.pairwise in
     let m = entries_fit c.args.strengths.now.pairwise in
-    omega (arith, c.requires, c.write_table-entries_at.ensures.stop, c.write_table-entries_at.auto.sheet)
+    omega (arith, c.requires, c.write_table.ensures.wrote.stop, c.write_table.ensures.size)
 
-pub write_set-requires : goal.write_set-requires
-write_set-requires c =
+pub put-requires : goal.put-requires
+put-requires c =
     let n = front_length c.args.strengths.now.pairwise in
     let m = entries_fit c.args.strengths.now.pairwise in
-    omega (arith, c.requires, c.write_table-entries_at.ensures.stop, c.write_table-entries_at.auto.sheet, c.write_entries-best_at.ensures.stop, c.write_entries-best_at.auto.sheet)
+    omega (arith, c.requires, c.write_table.ensures.wrote.stop, c.write_table.ensures.size, c.write_entries.ensures.wrote.stop, c.write_entries.ensures.size, ap length c.to_le_bytes.ensures)
 
 pub returns : goal.returns
 returns c =
-    wrote_certificate c.args.strengths.now.pairwise _ c.requires c.write_table-entries_at.ensures c.write_entries-best_at.ensures c.write_set.ensures
+    put_left (wrote_certificate c.args.strengths.now.pairwise _ c.requires refl c.write_table.ensures c.write_entries.ensures
+    (put_as c.to_le_bytes.ensures c.put.ensures)) (search rules)

@@ -1,18 +1,26 @@
-use Rattle.std.proofs.Common.{arith}
-use Rattle.certificate.specs.Parts.{claims_bytes}
-use Rattle.certificate.proofs.Writing.{wrote_none, part_fits, wrote_next, wrote_all}
+use Rattle.std.proofs.Common.{[], arith}
+use Rattle.certificate.specs.Layout.{claim_bytes}
+use Rattle.certificate.specs.Parts.{found_in}
+use Rattle.certificate.proofs.Writing.{put_none, pair_fits, pair_put, row_put, all_put}
 use Rattle.certificate.proofs.writes.write_entries.Goals as goal
 
 pub loop-x-init : goal.loop-x-init
-loop-x-init c = wrote_none _ _
+loop-x-init c = put_none _
 
-pub write_claims-at-requires : goal.write_claims-at-requires
-write_claims-at-requires c =
-    part_fits (claims_bytes c.args.strengths.now.pairwise) _ _ _ c.loop-x-test.true c.requires c.loop-x.auto.sheet c.loop-x.invariant
+pub write_claim-requires : goal.write_claim-requires
+write_claim-requires c =
+    let t = c.args.strengths.now.pairwise in
+    pair_fits [] t.counts.candidates (claim_bytes (found_in t)) _ _ c.loop-x-test.true c.loop-y-test.true c.requires c.loop-y.invariant
+
+pub loop-y-preserved : goal.loop-y-preserved
+loop-y-preserved c =
+    let t = c.args.strengths.now.pairwise in
+    pair_put [] t.counts.candidates (claim_bytes (found_in t)) _ _ c.loop-x-test.true c.loop-y-test.true c.requires c.loop-y.invariant c.write_claim.ensures
 
 pub loop-x-preserved : goal.loop-x-preserved
 loop-x-preserved c =
-    wrote_next (claims_bytes c.args.strengths.now.pairwise) _ _ _ c.loop-x-test.true c.requires c.loop-x.invariant c.write_claims-at.ensures
+    let t = c.args.strengths.now.pairwise in row_put [] t.counts.candidates (claim_bytes (found_in t)) _ _ (omega arith) c.loop-y.invariant
 
 pub returns : goal.returns
-returns c = wrote_all (claims_bytes c.args.strengths.now.pairwise) _ _ _ (omega arith) c.loop-x.invariant
+returns c =
+    let t = c.args.strengths.now.pairwise in all_put [] t.counts.candidates (claim_bytes (found_in t)) _ (omega arith) c.loop-x.invariant

@@ -1,30 +1,30 @@
-use Rattle.std.proofs.Common.{◌≡◌, ℕ, ◌+◌, ◌≤◌, List, length, refl, arith}
-use Rattle.std.specs.List.{range_with_len, flat_map}
-use Rattle.paths.proofs.Written.{wrote_both}
+use Rattle.std.proofs.Common.{ℕ, [], ◌∷◌, List, length, ap, ◌∙◌, arith}
 use Rattle.pairwise.specs.declared.Pairwise.{Pairwise}
-use Rattle.certificate.specs.Parts.{row_bytes}
-use Rattle.certificate.proofs.Writing.{wrote_none, part_fits, wrote_next, wrote_all}
+use Rattle.pairwise.specs.Grids.{entry}
+use Rattle.certificate.specs.Layout.{two_bytes}
+use Rattle.certificate.proofs.Writing.{put_as, pair_fits, pair_put, row_put, all_put}
 use Rattle.certificate.proofs.writes.write_table.Goals as goal
 
-abbrev rest : Pairwise → List ℕ
-rest t = flat_map (row_bytes t) (range_with_len 0 t.counts.candidates)
+abbrev head : Pairwise → List ℕ
+head t = t.counts.candidates ∷ []
 
-pub loop-x-init : goal.loop-x-init
-loop-x-init c = wrote_none _ _
+abbrev part : Pairwise → ℕ → ℕ → List ℕ
+part t x y = two_bytes (entry t.counts x y)
 
-pub write_counts-at-requires : goal.write_counts-at-requires
-write_counts-at-requires c =
-    let room : c.write_at-at.result + length (rest c.args.table.now) ≤ length c.write_at-at.new.sheet =
-    omega (arith, c.requires, c.write_at-at.ensures.stop, c.write_at-at.auto.sheet) in
-    part_fits (row_bytes c.args.table.now) _ _ _ c.loop-x-test.true room c.loop-x.auto.sheet c.loop-x.invariant
+pub put-requires-in-loop-y : goal.put-requires-in-loop-y
+put-requires-in-loop-y c =
+    let t = c.args.table.now in
+    let fits = pair_fits (head t) t.counts.candidates (part t) _ _ c.loop-x-test.true c.loop-y-test.true c.requires c.loop-y.invariant in
+    omega (arith, fits, ap length c.to_le_bytes.ensures)
+
+pub loop-y-preserved : goal.loop-y-preserved
+loop-y-preserved c =
+    let t = c.args.table.now in
+    pair_put (head t) t.counts.candidates (part t) _ _ c.loop-x-test.true c.loop-y-test.true c.requires c.loop-y.invariant
+    (put_as (c.to_le_bytes.ensures ∙ ap two_bytes c.preferring.ensures) c.put-in-loop-y.ensures)
 
 pub loop-x-preserved : goal.loop-x-preserved
-loop-x-preserved c =
-    let room : c.write_at-at.result + length (rest c.args.table.now) ≤ length c.write_at-at.new.sheet =
-    omega (arith, c.requires, c.write_at-at.ensures.stop, c.write_at-at.auto.sheet) in
-    wrote_next (row_bytes c.args.table.now) _ _ _ c.loop-x-test.true room c.loop-x.invariant c.write_counts-at.ensures
+loop-x-preserved c = let t = c.args.table.now in row_put (head t) t.counts.candidates (part t) _ _ (omega arith) c.loop-y.invariant
 
 pub returns : goal.returns
-returns c =
-    let e : c.loop-x.x ≡ c.args.table.now.counts.candidates = omega arith in
-    wrote_both refl (omega (arith, c.requires)) c.write_at-at.ensures (wrote_all (row_bytes c.args.table.now) _ _ _ e c.loop-x.invariant)
+returns c = let t = c.args.table.now in all_put (head t) t.counts.candidates (part t) _ (omega arith) c.loop-x.invariant

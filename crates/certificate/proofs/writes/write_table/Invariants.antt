@@ -1,7 +1,16 @@
-use Rattle.std.specs.List.{range_with_len, flat_map}
-use Rattle.paths.specs.Found.{Wrote}
-use Rattle.certificate.specs.Parts.{row_bytes}
+use Rattle.std.proofs.Common.{◌∷◌}
+use Rattle.pairwise.specs.Grids.{entry}
+use Rattle.certificate.specs.Layout.{two_bytes}
+use Rattle.certificate.specs.Progress.{Put}
+use Rattle.certificate.proofs.Pairs.{before}
 use Rattle.certificate.proofs.writes.write_table.Given as goal
 
 abbrev pub invariant-loop-x : goal.invariant-loop-x
-invariant-loop-x l = Wrote (flat_map (row_bytes l.table) (range_with_len 0 l.x)) l.initial.at l.initial.sheet l.sheet l.at
+invariant-loop-x l =
+    Put (l.table.counts.candidates ∷ before l.table.counts.candidates (λ x y. two_bytes (entry l.table.counts x y)) l.x 0)
+    l.fn.writer l.writer
+
+abbrev pub invariant-loop-y : goal.invariant-loop-y
+invariant-loop-y l =
+    Put (l.table.counts.candidates ∷ before l.table.counts.candidates (λ x y. two_bytes (entry l.table.counts x y)) l.x l.y)
+    l.fn.writer l.writer

@@ -13,7 +13,6 @@ pub better-requires : goal.better-requires
 better-requires c =
     let few = c.args.pairwise.now.counts.few in
     record {
-      size = (c.loop-y.invariant.long, c.loop-y.invariant.wide);
       inside = (omega arith, (omega arith, omega arith));
       earlier = earlier c.loop-y.invariant few (omega arith) (omega arith) (omega arith);
     }
