@@ -1,5 +1,5 @@
 -- What is written to the slices that are lent.
-use Rattle.std.proofs.Common.{◌≡◌, ℕ, ◌+◌, ◌*◌, ◌<◌, ◌≤◌, List, ◌++◌, length, get_or, take, drop, None, Ok, Err, Result, sym, refl, ap, ◌∙◌, subst, arith}
+use Rattle.std.proofs.Common.{◌≡◌, ℕ, ◌+◌, ◌*◌, ◌<◌, ◌≤◌, List, ◌++◌, length, get_or, take, drop, None, Ok, Err, IfOk, Result, sym, refl, ap, ◌∙◌, arith}
 use Rattle.std.proofs.lemmas.List.{take_at}
 use Rattle.std.proofs.lemmas.Bool.{lt-ltb, le-ltb}
 use Rattle.std.proofs.lemmas.Bool.Decides.{nat_tests}
@@ -11,7 +11,7 @@ use Rattle.ballots.specs.Lending.{answered}
 use Rattle.pairwise.specs.declared.Pairwise.{Pairwise}
 use Rattle.pairwise.specs.Counts.{count, win_by, win}
 use Rattle.pairwise.specs.Grids.{cell, entry, rows, table, Copied}
-use Rattle.pairwise.specs.Tables.{PairwiseOf}
+use Rattle.pairwise.specs.Tables.{win_in, PairwiseOf}
 use Rattle.pairwise.proofs.Rows.{length_rows, rows_same}
 use Rattle.paths.specs.Paths.{strength}
 use Rattle.paths.specs.Strengths.{strength_in, strength_table}
@@ -21,10 +21,11 @@ use Rattle.best.proofs.Meanings.{best_meaning}
 use Rattle.best.proofs.Tabled.{entry_count}
 use Rattle.certificate.specs.declared.Certified.{Certified}
 use Rattle.certificate.specs.Judge.{judge}
-use Rattle.certificate.specs.Certified.{certificate_by, strengths_by, longest, room_refusal, certify_refusal, certified, Certifies}
+use Rattle.certificate.specs.Certified.{certificate_by, strengths_by, longest, room_refusal, certify_refusal, certified_by, certified, CertifiesTable, Certifies}
 use Rattle.certificate.specs.Parts.{certificate_in}
-use Rattle.certificate.proofs.Moves.{answered_ok}
+use Rattle.certificate.proofs.Moves.{answered_ok, answered_err}
 use Rattle.certificate.proofs.Certificates.{certificate_accepted, strengths_agreed, best_same_by, certificate_agreed}
+use Rattle.certificate.proofs.Truths.{one_best_set}
 
 -- all slices have room
 pub record Room (v table strengths sheet : ℕ) : Type 0 where
@@ -52,27 +53,67 @@ copied_never h c = let k = (copied_room h c).0 in let z : ◌≡◌ {A = ℕ} 0 
 pub table_fits : (t : Pairwise) (room : ℕ) → t.counts.candidates * t.counts.candidates ≤ room → length (table t.counts) ≤ room
 table_fits t room h = omega (arith, length_rows t.counts.candidates (cell t.counts.cells))
 
-pub strengths_fit : (t f : Pairwise) (room : ℕ) → f ≡ t → t.counts.candidates * t.counts.candidates ≤ room → length (strength_table f) ≤ room
-strengths_fit t f room e h =
-    let k : length (strength_table t) ≤ room = omega (arith, length_rows t.counts.candidates (strength_in t)) in
-    subst (λ (g : Pairwise). length (strength_table g) ≤ room) (sym e) k
+pub strengths_fit : (t : Pairwise) (room : ℕ) → t.counts.candidates * t.counts.candidates ≤ room → length (strength_table t) ≤ room
+strengths_fit t room h = omega (arith, length_rows t.counts.candidates (strength_in t))
 
--- what was written by the table of the ballots
+-- nothing is written where there is no room
+pub not_certified : (t : Pairwise) (numbers strengths sheet : List ℕ) {e : Refusal} →
+    Err e ≡ answered {A = Unit {0}} (room_refusal t.counts.candidates (length numbers) (length strengths) (length sheet)) tt →
+    CertifiesTable t numbers numbers strengths strengths sheet sheet (Err e)
+not_certified t numbers strengths sheet {e} h =
+    let k = answered_err (room_refusal t.counts.candidates (length numbers) (length strengths) (length sheet)) tt e (sym h) in
+    record { answer = rw k refl; table_after = rw k refl; strengths_after = rw k refl; sheet_after = rw k refl }
+
+-- what was written by a table
+module _ (t : Pairwise) (numbers numbers' strengths strengths' sheet sheet' : List ℕ) (best len : ℕ)
+    (room : Room t.counts.candidates (length numbers) (length strengths) (length sheet))
+    (counted : Copied lent.Table (table t.counts) numbers numbers' (Ok tt))
+    (strong : Copied lent.Strengths (strength_table t) strengths strengths' (Ok tt))
+    (is_best : best ≡ best_by (strength_in t) t.counts.candidates)
+    (wrote : Wrote (certificate_in t best) 0 sheet sheet' len) where
+  abbrev certificate : List ℕ
+  certificate = certificate_by t.counts.candidates (entry t.counts)
+
+  not_refused : room_refusal t.counts.candidates (length numbers) (length strengths) (length sheet) ≡ None
+  not_refused = parts_room _ _ _ _ room
+
+  is_table : table t.counts ≡ rows t.counts.candidates (entry t.counts)
+  is_table = rows_same t.counts.candidates (cell t.counts.cells) (entry t.counts) (λ x y lx ly. rw (lt-ltb x t.counts.candidates lx, lt-ltb y t.counts.candidates ly) refl)
+
+  is_certificate : certificate_in t best ≡ certificate
+  unfolding certificate_by
+  is_certificate = rw is_best refl
+
+  long : len ≡ length certificate
+  long = wrote.stop ∙ omega (arith, ap length is_certificate)
+
+  front : sheet' ≡ certificate ++ drop (length certificate) sheet
+  unfolding put
+  front = let z : 0 + length certificate ≡ length certificate = omega arith in wrote.after ∙ rw (is_certificate, z)
+
+  pub certifies_table : CertifiesTable t numbers numbers' strengths strengths' sheet sheet' (Ok (record { ballots = t.ballots; best = best; length = len }))
+  certifies_table =
+      record {
+        answer = rw (not_refused, is_best, long) refl;
+        table_after = rw not_refused ((copied_room (table_fits t (length numbers) room.for_table) counted).1 ∙ rw is_table refl);
+        strengths_after = rw not_refused (copied_room (strengths_fit t (length strengths) room.for_strengths) strong).1;
+        sheet_after = rw not_refused front;
+      }
+
+  pub best_of_table : BestSet (win_in t) t.counts.candidates best
+  best_of_table = rw is_best (best_meaning (win_in t) t.counts.candidates)
+
+-- the same, said of the ballots whose table it is
 module _ (bytes : List ℕ) (t : Pairwise) (h : PairwiseOf bytes t) where
   agree : (x y : ℕ) → x < t.counts.candidates → y < t.counts.candidates → entry t.counts x y ≡ count unranked (ballots_of bytes) x y
   agree x y lx ly = let e = h.candidates in entry_count bytes t h x y (omega arith) (omega arith)
 
-  cells_agree : (x y : ℕ) → x < t.counts.candidates → y < t.counts.candidates → cell t.counts.cells x y ≡ count unranked (ballots_of bytes) x y
-  cells_agree x y lx ly =
-      let e : cell t.counts.cells x y ≡ entry t.counts x y = rw (lt-ltb x t.counts.candidates lx, lt-ltb y t.counts.candidates ly) in
-      e ∙ agree x y lx ly
-
-  table_counted : table t.counts ≡ rows (candidates_in bytes) (count unranked (ballots_of bytes))
-  table_counted =
-      rows_same t.counts.candidates (cell t.counts.cells) (count unranked (ballots_of bytes)) cells_agree
+  rows_counted : rows t.counts.candidates (entry t.counts) ≡ rows (candidates_in bytes) (count unranked (ballots_of bytes))
+  rows_counted =
+      rows_same t.counts.candidates (entry t.counts) (count unranked (ballots_of bytes)) agree
       ∙ ap (λ k. rows k (count unranked (ballots_of bytes))) h.candidates
 
-  strengths_counted : strength_table t ≡ strengths_by (candidates_in bytes) (count unranked (ballots_of bytes))
+  strengths_counted : strengths_by t.counts.candidates (entry t.counts) ≡ strengths_by (candidates_in bytes) (count unranked (ballots_of bytes))
   strengths_counted =
       strengths_agreed t.counts.candidates (entry t.counts) (count unranked (ballots_of bytes)) agree
       ∙ ap (λ k. strengths_by k (count unranked (ballots_of bytes))) h.candidates
@@ -87,63 +128,40 @@ module _ (bytes : List ℕ) (t : Pairwise) (h : PairwiseOf bytes t) where
       certificate_agreed t.counts.candidates (entry t.counts) (count unranked (ballots_of bytes)) agree
       ∙ ap (λ k. certificate_by k (count unranked (ballots_of bytes))) h.candidates
 
-  module _ (numbers numbers' strengths strengths' sheet sheet' : List ℕ) (best len : ℕ)
-      (room : Room t.counts.candidates (length numbers) (length strengths) (length sheet))
-      (counted : Copied lent.Table (table t.counts) numbers numbers' (Ok tt))
-      (strong : Copied lent.Strengths (strength_table t) strengths strengths' (Ok tt))
-      (is_best : best ≡ best_by (strength_in t) t.counts.candidates)
-      (wrote : Wrote (certificate_in t best) 0 sheet sheet' len) where
-    abbrev certificate : List ℕ
-    certificate = certificate_by (candidates_in bytes) (count unranked (ballots_of bytes))
+  certified_counted : certified_by t.ballots t.counts.candidates (entry t.counts) ≡ certified bytes
+  certified_counted = rw (h.ballots, best_counted, certificate_counted) refl
 
-    not_refused : certify_refusal bytes (length numbers) (length strengths) (length sheet) ≡ None
-    not_refused = rw h.accepted (parts_room (candidates_in bytes) _ _ _ (subst (λ k. Room k (length numbers) (length strengths) (length sheet)) h.candidates room))
+  pub certifies : (numbers numbers' strengths strengths' sheet sheet' : List ℕ) (r : Result Certified Refusal) →
+      CertifiesTable t numbers numbers' strengths strengths' sheet sheet' r → Certifies bytes numbers numbers' strengths strengths' sheet sheet' r
+  certifies numbers numbers' strengths strengths' sheet sheet' r c =
+      let e : room_refusal t.counts.candidates (length numbers) (length strengths) (length sheet) ≡ certify_refusal bytes (length numbers) (length strengths) (length sheet) =
+      rw (h.accepted, h.candidates) refl in
+      record {
+        answer = c.answer ∙ rw (e, certified_counted) refl;
+        table_after = c.table_after ∙ rw (e, rows_counted) refl;
+        strengths_after = c.strengths_after ∙ rw (e, strengths_counted) refl;
+        sheet_after = c.sheet_after ∙ rw (e, certificate_counted) refl;
+      }
 
-    is_certificate : certificate_in t best ≡ certificate
-    unfolding certificate_by
-    is_certificate = rw is_best certificate_counted
+  best_counts : (best : ℕ) → BestSet (win_in t) t.counts.candidates best → BestSet (win unranked (ballots_of bytes)) (candidates_in bytes) best
+  unfolding win
+  best_counts best b =
+      let e = one_best_set (win_in t) t.counts.candidates best _ b (best_meaning (win_in t) t.counts.candidates) in
+      rw (e ∙ best_counted) (best_meaning (win_by (count unranked (ballots_of bytes))) (candidates_in bytes))
 
-    long : len ≡ length certificate
-    long = wrote.stop ∙ omega (arith, ap length is_certificate)
+  pub best_said : (r : Result Certified Refusal) → IfOk r (λ c. BestSet (win_in t) t.counts.candidates c.best) →
+      IfOk r (λ c. BestSet (win unranked (ballots_of bytes)) (candidates_in bytes) c.best)
+  best_said (Ok c) b = best_counts c.best b
+  best_said (Err e) b = tt
 
-    front : sheet' ≡ certificate ++ drop (length certificate) sheet
-    unfolding put
-    front = let z : 0 + length certificate ≡ length certificate = omega arith in wrote.after ∙ rw (is_certificate, z)
-
-    certifies : Certifies bytes numbers numbers' strengths strengths' sheet sheet' (Ok (record { ballots = t.ballots; best = best; length = len }))
-    certifies =
-        record {
-          answer = rw not_refused (ap (λ r. Ok r) (same h.ballots (is_best ∙ best_counted) long));
-          table_after = rw not_refused ((copied_room (table_fits t (length numbers) room.for_table) counted).1 ∙ rw table_counted);
-          strengths_after = rw not_refused ((copied_room (strengths_fit t t (length strengths) refl room.for_strengths) strong).1 ∙ rw strengths_counted);
-          sheet_after = rw not_refused front;
-        }
-      where
-        same : {a b c d e f : ℕ} → a ≡ b → c ≡ d → e ≡ f → ◌≡◌ {A = Certified} (record { ballots = a; best = c; length = e }) (record { ballots = b; best = d; length = f })
-        same p q r = rw (p, q, r)
-
-    certified_accepted : ((i : ℕ) → get_or bytes i 0 < 256) → judge bytes (take len sheet') ≡ None
-    certified_accepted small =
-        let e : take len sheet' ≡ certificate = rw (front, long) (take_at certificate (drop (length certificate) sheet) (length certificate) refl) in
-        rw e (certificate_accepted bytes small h.accepted)
-
--- the slices afterwards, where the strengths were found by the table of the ballots
-pub all_written :
-    (bytes : List ℕ) (t f : Pairwise) (numbers numbers' strengths strengths' sheet sheet' : List ℕ) (best len : ℕ) → PairwiseOf bytes t → f ≡ t →
-    Room t.counts.candidates (length numbers) (length strengths) (length sheet) →
-    Copied lent.Table (table t.counts) numbers numbers' (Ok tt) → Copied lent.Strengths (strength_table f) strengths strengths' (Ok tt) →
-    best ≡ best_by (strength_in f) f.counts.candidates →
-    Wrote (certificate_in f best) 0 sheet sheet' len →
-    ((i : ℕ) → get_or bytes i 0 < 256) →
-    Certifies bytes numbers numbers' strengths strengths' sheet sheet' (Ok (record { ballots = t.ballots; best = best; length = len }))
-    × BestSet (win unranked (ballots_of bytes)) (candidates_in bytes) best
-    × (judge bytes (take len sheet') ≡ None)
-unfolding win
-all_written bytes t f numbers numbers' strengths strengths' sheet sheet' best len h e room counted strong is_best wrote small =
-    let s = subst (λ (g : Pairwise). Copied lent.Strengths (strength_table g) strengths strengths' (Ok tt)) e strong in
-    let b = subst (λ (g : Pairwise). best ≡ best_by (strength_in g) g.counts.candidates) e is_best in
-    let w = subst (λ (g : Pairwise). Wrote (certificate_in g best) 0 sheet sheet' len) e wrote in (
-      certifies bytes t h numbers numbers' strengths strengths' sheet sheet' best len room counted s b w,
-      rw (b ∙ best_counted bytes t h) (best_meaning (win_by (count unranked (ballots_of bytes))) (candidates_in bytes)),
-      certified_accepted bytes t h numbers numbers' strengths strengths' sheet sheet' best len room counted s b w small,
-    )
+  -- its certificate is accepted
+  pub accepted_said : ((i : ℕ) → get_or bytes i 0 < 256) → (numbers numbers' strengths strengths' sheet sheet' : List ℕ) (r : Result Certified Refusal) →
+      Certifies bytes numbers numbers' strengths strengths' sheet sheet' r → IfOk r (λ c. judge bytes (take c.length sheet') ≡ None)
+  accepted_said small numbers numbers' strengths strengths' sheet sheet' (Ok c) k =
+      let certificate : List ℕ = certificate_by (candidates_in bytes) (count unranked (ballots_of bytes)) in
+      let (none, is) = answered_ok (certify_refusal bytes (length numbers) (length strengths) (length sheet)) (certified bytes) c (sym k.answer) in
+      let long : c.length ≡ length certificate = ap (λ d. d.length) (sym is) in
+      let front : sheet' ≡ certificate ++ drop (length certificate) sheet = k.sheet_after ∙ rw none refl in
+      let e : take c.length sheet' ≡ certificate = rw (front, long) (take_at certificate (drop (length certificate) sheet) (length certificate) refl) in
+      rw e (certificate_accepted bytes small h.accepted)
+  accepted_said small numbers numbers' strengths strengths' sheet sheet' (Err e) k = tt

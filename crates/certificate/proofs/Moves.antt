@@ -15,6 +15,10 @@ pub answered_ok : {A : Type 0} (o : Option Refusal) (a b : A) → answered o a �
 answered_ok None a b h = (refl, cc)
 answered_ok (Some e) a b h = let z : ◌≡◌ {A = ℕ} 0 1 = cc in absurd (omega arith)
 
+pub answered_err : {A : Type 0} (o : Option Refusal) (a : A) (e : Refusal) → answered o a ≡ Err e → o ≡ Some e
+answered_err None a e h = let z : ◌≡◌ {A = ℕ} 0 1 = cc in absurd (omega arith)
+answered_err (Some f) a e h = cc
+
 pub answered_by : (r : Result (Unit {0}) Refusal) (o : Option Refusal) → refused r ≡ o → r ≡ answered o tt
 answered_by (Ok tt) o h = rw (← h) refl
 answered_by (Err e) o h = rw (← h) refl

@@ -8,7 +8,8 @@ use Rattle.ballots.specs.Format.{unranked, candidates_in, ballots_in, ballots_of
 use Rattle.ballots.specs.Lending.{or_else, answered, written}
 use Rattle.ballots.specs.Refusals.{refusal}
 use Rattle.pairwise.specs.Counts.{count, win_by}
-use Rattle.pairwise.specs.Grids.{rows}
+use Rattle.pairwise.specs.declared.Pairwise.{Pairwise}
+use Rattle.pairwise.specs.Grids.{entry, rows}
 use Rattle.paths.specs.Paths.{strength}
 use Rattle.paths.specs.Rows.{row}
 use Rattle.paths.specs.Cuts.{cut}
@@ -47,19 +48,29 @@ room_refusal v table strengths sheet =
 abbrev pub certify_refusal : List ℕ → ℕ → ℕ → ℕ → Option Refusal
 certify_refusal bytes table strengths sheet = or_else (refusal bytes) (room_refusal (candidates_in bytes) table strengths sheet)
 
--- what is answered of the ballots in the bytes: their number, the set of the best, and the length of the certificate
+-- what is answered of so many ballots of v candidates with the counts n: their number, the set of the best, and the length of the certificate
+abbrev pub certified_by : ℕ → ℕ → (ℕ → ℕ → ℕ) → Certified
+certified_by ballots v n = record { ballots = ballots; best = best_by (strength (win_by n) v) v; length = length (certificate_by v n) }
+
+-- the same of the ballots in the bytes
 abbrev pub certified : List ℕ → Certified
-certified bytes =
-    let v : ℕ = candidates_in bytes in
-    let n : ℕ → ℕ → ℕ = count unranked (ballots_of bytes) in
-    record { ballots = ballots_in bytes; best = best_by (strength (win_by n) v) v; length = length (certificate_by v n) }
+certified bytes = certified_by (ballots_in bytes) (candidates_in bytes) (count unranked (ballots_of bytes))
 
 -- counts, strengths and certificate stand in front of what was lent, and r says what they are; or the call is refused, and nothing is changed
-pub record CertifiesUnless (refused : Option Refusal) (bytes table table' strengths strengths' sheet sheet' : List ℕ) (r : Result Certified Refusal) : Type 0 where
-  pub answer : r ≡ answered refused (certified bytes)
-  pub table_after : table' ≡ written refused table (rows (candidates_in bytes) (count unranked (ballots_of bytes)))
-  pub strengths_after : strengths' ≡ written refused strengths (strengths_by (candidates_in bytes) (count unranked (ballots_of bytes)))
-  pub sheet_after : sheet' ≡ written refused sheet (certificate_by (candidates_in bytes) (count unranked (ballots_of bytes)))
+pub record CertifiesBy (refused : Option Refusal) (ballots v : ℕ) (n : ℕ → ℕ → ℕ) (table table' strengths strengths' sheet sheet' : List ℕ) (r : Result Certified Refusal) : Type 0 where
+  pub answer : r ≡ answered refused (certified_by ballots v n)
+  pub table_after : table' ≡ written refused table (rows v n)
+  pub strengths_after : strengths' ≡ written refused strengths (strengths_by v n)
+  pub sheet_after : sheet' ≡ written refused sheet (certificate_by v n)
+
+-- the counts in a table are certified, unless a slice is too short
+abbrev pub CertifiesTable : Pairwise → List ℕ → List ℕ → List ℕ → List ℕ → List ℕ → List ℕ → Result Certified Refusal → Type 0
+CertifiesTable t table table' strengths strengths' sheet sheet' r =
+    CertifiesBy (room_refusal t.counts.candidates (length table) (length strengths) (length sheet)) t.ballots t.counts.candidates (entry t.counts) table table' strengths strengths' sheet sheet' r
+
+-- those of the ballots in the bytes are, unless the call is refused
+abbrev pub CertifiesUnless : Option Refusal → List ℕ → List ℕ → List ℕ → List ℕ → List ℕ → List ℕ → List ℕ → Result Certified Refusal → Type 0
+CertifiesUnless refused bytes = CertifiesBy refused (ballots_in bytes) (candidates_in bytes) (count unranked (ballots_of bytes))
 
 -- the same, refused only where the ballots are, or where a slice is too short
 abbrev pub Certifies : List ℕ → List ℕ → List ℕ → List ℕ → List ℕ → List ℕ → List ℕ → Result Certified Refusal → Type 0

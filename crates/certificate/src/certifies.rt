@@ -3,9 +3,10 @@ ghost use Rattle.std.specs.Prelude.{◌≡◌, ◌≤◌, take, IfOk, None};
 ghost use Rattle.ballots.specs.Format.{most_candidates, unranked, candidates_in, ballots_of};
 ghost use Rattle.ballots.specs.Lending.{answered};
 ghost use Rattle.pairwise.specs.Counts.{win};
+ghost use Rattle.pairwise.specs.Tables.{win_in};
 ghost use Rattle.best.specs.Compared.{BestSet};
 ghost use Rattle.certificate.specs.Judge.{judge};
-ghost use Rattle.certificate.specs.Certified.{longest, room_refusal, Certifies};
+ghost use Rattle.certificate.specs.Certified.{longest, room_refusal, CertifiesTable, Certifies};
 
 use crate::Certified;
 use crate::writes::write_certificate;
@@ -45,8 +46,34 @@ fn check_room(
     Ok(())
 }
 
-// Writes the table, the strengths and the certificate of the ballots to the fronts of the slices that are lent, or
-// refuses before anything is written. The certificate is one that `check` accepts.
+// Writes the table, the strengths and their certificate to the fronts of the slices that are lent, or refuses before
+// anything is written.
+pub fn certify_strengths(
+    found: &Strengths,
+    table: &mut [u16],
+    strengths: &mut [u16],
+    sheet: &mut [u8],
+) -> Result<Certified, Refusal>
+    ensures written { CertifiesTable found.now.pairwise table.old table.new strengths.old strengths.new sheet.old sheet.new result }
+    ensures best { IfOk result (λ c. BestSet (win_in found.now.pairwise) found.now.pairwise.counts.candidates c.best) }
+{
+    check_room(
+        found.pairwise.counts.candidates,
+        table.len(),
+        strengths.len(),
+        sheet.len(),
+    )?;
+    found.pairwise.copy_to(table)?;
+    found.copy_to(strengths)?;
+    let best = best(found);
+    Ok(Certified {
+        ballots: found.pairwise.ballots,
+        best,
+        length: write_certificate(found, best, sheet),
+    })
+}
+
+// The same of the ballots that the bytes hold. The certificate is one that `check` accepts.
 pub fn certify(
     bytes: &[u8],
     table: &mut [u16],
@@ -58,20 +85,5 @@ pub fn certify(
     ensures accepted { IfOk result (λ c. judge bytes.now (take c.length sheet.new) ≡ None) }
 {
     let pairwise = tally(bytes)?;
-    check_room(
-        pairwise.counts.candidates,
-        table.len(),
-        strengths.len(),
-        sheet.len(),
-    )?;
-    let found = Strengths::of(&pairwise);
-    let best = best(&found);
-    pairwise.copy_to(table)?;
-    found.copy_to(strengths)?;
-    let length = write_certificate(&found, best, sheet);
-    Ok(Certified {
-        ballots: pairwise.ballots,
-        best,
-        length,
-    })
+    certify_strengths(&Strengths::of(&pairwise), table, strengths, sheet)
 }

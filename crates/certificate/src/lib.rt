@@ -13,7 +13,7 @@ mod reads;
 mod tables;
 mod writes;
 
-pub use certifies::certify;
+pub use certifies::{certify, certify_strengths};
 pub use checks::check;
 
 // How many bytes have room for every certificate: that of most candidates, with all of them on the path of each pair.
