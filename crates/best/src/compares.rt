@@ -31,12 +31,7 @@ pub fn ahead(strengths: &Strengths, x: usize, y: usize) -> bool
 pub(crate) fn unbeaten(strengths: &Grid, left: &[bool; MOST_CANDIDATES], x: usize) -> bool
     ensures { result ≡ unbeaten_by (entry strengths.now) strengths.now.candidates (λ y. slice_index_or left.now y false) x }
 {
-    for y in 0..strengths.candidates {
-        if left[y] && ahead_by(strengths, y, x) {
-            return false;
-        }
-    }
-    true
+    (0..strengths.candidates).all(|y| !(left[y] && ahead_by(strengths, y, x)))
 }
 
 // By any strengths, the set of the candidates of whom nobody is ahead.

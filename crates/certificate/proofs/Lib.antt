@@ -1,4 +1,3 @@
-pub mod Every
 pub mod Pairs
 pub mod Follow
 pub mod Crossing

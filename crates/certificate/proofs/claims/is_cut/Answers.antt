@@ -3,7 +3,7 @@ use Rattle.std.proofs.lemmas.Bool.Decides.{nat_tests}
 use borrow.Author.Tests.{tests}
 use Rattle.ballots.specs.Sets.{every}
 use Rattle.pairwise.specs.Tables.{win_in}
-use Rattle.certificate.proofs.Every.{every_from_all}
+use Rattle.ballots.proofs.Every.{every_from_all}
 use Rattle.certificate.proofs.Crossing.{calm, is_cut_shifted}
 use Rattle.certificate.proofs.claims.is_cut.Goals as goal
 use Rattle.certificate.proofs.claims.is_cut.Goals.{then-set-candidates-eq0, else-set-candidates-eq0, then-holds, else-holds}

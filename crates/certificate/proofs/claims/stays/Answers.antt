@@ -2,7 +2,7 @@ use Rattle.std.proofs.Common.{not, rules}
 use borrow.Author.Tests.{tests}
 use Rattle.pairwise.specs.Tables.{win_in}
 use Rattle.certificate.specs.Judge.{crosses}
-use Rattle.certificate.proofs.Every.{every_from_all}
+use Rattle.ballots.proofs.Every.{every_from_all}
 use Rattle.certificate.proofs.claims.stays.Goals as goal
 
 pub returns : goal.returns
