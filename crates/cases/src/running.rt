@@ -12,13 +12,10 @@ fn print_refused(rt: &HostRuntime, name: &str, candidates: usize) -> anyhow::Res
 }
 
 fn add(rt: &HostRuntime, count: &mut Provisional, ballot: &[u8]) -> anyhow::Result<()> {
-    let answer = count.add(ballot);
-    let ballots = count.ballots();
-    let best = count.best();
-    match answer {
-        Ok(()) => println!(rt; "papers {ballots} best {best:b}")?,
-        Err(refusal) => println!(rt; "{refusal}, papers {ballots} best {best:b}")?,
+    if let Err(refusal) = count.add(ballot) {
+        print!(rt; "{refusal}, ")?;
     }
+    println!(rt; "papers {} best {:b}", count.ballots(), count.best())?;
     Ok(())
 }
 

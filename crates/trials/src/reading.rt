@@ -54,9 +54,7 @@ pub fn counted(rt: &HostRuntime) -> anyhow::Result<()> {
 pub fn greatest(rt: &HostRuntime) -> anyhow::Result<()> {
     let mut bytes = vec![in rt.alloc(); MOST_CANDIDATES as u8, 255, 255]?;
     for _ in 0..u16::MAX {
-        for rank in 1..=MOST_CANDIDATES as u8 {
-            bytes.push(rank)?;
-        }
+        bytes.extend(1..=MOST_CANDIDATES as u8)?;
     }
     match pairwise::tally(&bytes) {
         Ok(pairwise) => {
