@@ -5,6 +5,7 @@ use Rattle.ballots.specs.Format.{unranked, candidates_in, ballots_in, ballots_of
 use Rattle.ballots.specs.Lending.{or_else}
 use Rattle.ballots.specs.Refusals.{refusal}
 use Rattle.ballots.specs.Sets.{holds}
+use Rattle.ballots.proofs.Lending.{neither}
 use Rattle.pairwise.specs.Counts.{count, win}
 use Rattle.paths.specs.Paths.{below}
 use Rattle.paths.proofs.Walks.{in_below, below_in}
@@ -19,11 +20,6 @@ use Rattle.certificate.specs.Judge.{judge}
 use Rattle.tiebreak.specs.declared.outcome.Outcome.{Outcome}
 use Rattle.tiebreak.specs.Draws.{draw_refusal}
 use Rattle.tiebreak.specs.Outcomes.{count_refusal, OutcomeOf, Leaves, Trusted}
-
--- where neither of two refuses
-neither : (first second : Option Refusal) → or_else first second ≡ None → (first ≡ None) × (second ≡ None)
-neither None second h = (refl, h)
-neither (Some e) second h = let z : ◌≡◌ {A = ℕ} 0 1 = cc in absurd (omega arith)
 
 -- somebody is among the best
 somebody : (w : ℕ → ℕ → ℕ) (v s : ℕ) → 1 ≤ v → BestSet w v s → (x : ℕ) × (x < v) × (holds s x ≡ true)

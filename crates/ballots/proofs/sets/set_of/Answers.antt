@@ -1,4 +1,4 @@
-use Rattle.std.proofs.Common.{◌≡◌, true, false, refl, sym, ap, ◌∙◌, arith, rules, of_calls}
+use Rattle.std.proofs.Common.{refl, sym, ap, ◌∙◌, arith}
 use Rattle.ballots.specs.Sets.{set_of}
 use Rattle.ballots.proofs.Bits.{put_in, left_out}
 use Rattle.ballots.proofs.sets.set_of.Goals as goal

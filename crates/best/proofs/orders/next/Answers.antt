@@ -1,6 +1,6 @@
-use Rattle.std.proofs.Common.{◌≡◌, ℕ, Bool, ◌&&◌, Some, None, ◌∙◌, arith, rules, tests}
+use Rattle.std.proofs.Common.{ℕ, Bool, ◌&&◌, Some, None, ◌∙◌, arith, rules, tests}
 use Rattle.std.proofs.lemmas.Iterator.{YieldsList-from_range}
-use Rattle.std.proofs.lemmas.Iterator.Consumers.{YieldsList-at, YieldsList-from_filter, fold_from_yields_List}
+use Rattle.std.proofs.lemmas.Iterator.Consumers.{YieldsList-from_filter, fold_from_yields_List}
 use Rattle.ballots.specs.Strikes.{kept}
 use Rattle.pairwise.specs.Grids.{entry}
 use Rattle.best.specs.Compared.{before_by, unbeaten_by, earlier}

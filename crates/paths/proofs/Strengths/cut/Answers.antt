@@ -1,4 +1,4 @@
-use Rattle.std.proofs.Common.{◌≡◌, ℕ, min, ap, ◌∙◌, arith, rules, tests}
+use Rattle.std.proofs.Common.{◌≡◌, ℕ, ap, ◌∙◌, arith, rules, tests}
 use Rattle.ballots.specs.Sets.{set_of}
 use Rattle.pairwise.specs.Tables.{win_in}
 use Rattle.paths.specs.Cuts.{nearer}

@@ -1,4 +1,4 @@
-use Rattle.std.proofs.Common.{◌≡◌, ℕ, ◌+◌, ◌*◌, ◌/◌, ◌%◌, ap, ◌∙◌, arith, rules, tests}
+use Rattle.std.proofs.Common.{◌≡◌, ℕ, ◌+◌, ◌*◌, ◌/◌, ◌%◌, arith, rules, tests}
 use Rattle.ballots.specs.Format.{most_candidates}
 use Rattle.ballots.proofs.Made.{made_at}
 use Rattle.pairwise.specs.Grids.{cells}
