@@ -1,7 +1,8 @@
 -- What is read from a certificate is what stands in it.
-use Rattle.std.proofs.Common.{◌≡◌, ℕ, zero, suc, ◌+◌, ◌-◌, ◌<◌, ◌≤◌, eqb, List, [], ◌∷◌, ◌++◌, length, get_or, take, drop, sym, ap, ◌∙◌, inl, inr, append_assoc, add-zero, arith}
+use Rattle.std.proofs.Common.{◌≡◌, ℕ, zero, suc, ◌+◌, ◌-◌, ◌*◌, ◌<◌, ◌≤◌, eqb, List, [], ◌∷◌, ◌++◌, length, get_or, take, drop, sym, refl, ap, ◌∙◌, inl, inr, append_assoc, add-zero, arith}
 use Rattle.std.specs.List.{range_with_len, flat_map}
 use Rattle.std.proofs.lemmas.List.{drop_more, drop-drop, drop_all, take-append-drop, length-take-le, length-drop}
+use Rattle.std.proofs.lemmas.Nat.{le_bytes_2, le_bytes_4}
 use Rattle.std.proofs.lemmas.Bool.{cases_eq, eq-eqb, ne_eqb, eqb-true, leb-true}
 use Rattle.ballots.specs.declared.refusal.Refusal.TheVariants as refuse
 use Rattle.pairwise.specs.Counts.{win_by}
@@ -11,7 +12,6 @@ use Rattle.certificate.specs.Judge.{demand, stands, reaches, claim_demands, best
 use Rattle.certificate.proofs.Accepted.{Met, met_first, met_parts, met_pair}
 use Rattle.certificate.proofs.Demanded.{entry_met, best_met}
 use Rattle.certificate.proofs.Fronts.{table_length}
-use Rattle.certificate.proofs.Digits.{two_of, four_of}
 use Rattle.certificate.proofs.Places.{place_first, place_same, place_next, place_row, claim_other}
 
 -- bytes that stand from p on
@@ -29,26 +29,43 @@ stands_here sheet p (b ∷ bs) h =
     let e : (p + 1) + length bs ≡ p + length (b ∷ bs) = omega arith in
     rw (drop_more sheet p 0 k.0, k.1, stands_here sheet (p + 1) bs k.2, e)
 
+-- the bytes of a number that is made of bytes
+of_two : (a b : ℕ) → a < 256 → b < 256 → two_bytes (a + b * 256) ≡ a ∷ (b ∷ [])
+of_two a b la lb = le_bytes_2 (a ∷ (b ∷ [])) (a + b * 256) refl small refl
+  where
+    small : (i : ℕ) → get_or (a ∷ (b ∷ [])) i 0 < 256
+    small zero = la
+    small (suc zero) = lb
+    small (suc (suc i)) = omega arith
+
+of_four : (a b c d : ℕ) → a < 256 → b < 256 → c < 256 → d < 256 → four_bytes (a + b * 256 + c * 65536 + d * 16777216) ≡ a ∷ (b ∷ (c ∷ (d ∷ [])))
+of_four a b c d la lb lc ld = le_bytes_4 (a ∷ (b ∷ (c ∷ (d ∷ [])))) (a + b * 256 + c * 65536 + d * 16777216) refl small refl
+  where
+    small : (i : ℕ) → get_or (a ∷ (b ∷ (c ∷ (d ∷ [])))) i 0 < 256
+    small zero = la
+    small (suc zero) = lb
+    small (suc (suc zero)) = lc
+    small (suc (suc (suc zero))) = ld
+    small (suc (suc (suc (suc i)))) = omega arith
+
+-- the byte at p, and those behind it
+byte_here : (sheet : List ℕ) (p q : ℕ) → p < length sheet → q ≡ p + 1 → drop p sheet ≡ get_or sheet p 0 ∷ drop q sheet
+byte_here sheet p q l e = rw e (drop_more sheet p 0 l)
+
 module _ (sheet : List ℕ) (bytes : (i : ℕ) → get_or sheet i 0 < 256) where
   two_here : (p : ℕ) → p + 2 ≤ length sheet → drop p sheet ≡ two_bytes (two_at sheet p) ++ drop (p + 2) sheet
   two_here p l =
-      let a : p < length sheet = omega arith in
-      let b : p + 1 < length sheet = omega arith in
-      let e : p + 1 + 1 ≡ p + 2 = omega arith in
-      let n = two_of (get_or sheet p 0) (get_or sheet (p + 1) 0) (bytes p) (bytes (p + 1)) in
-      rw (n.low, n.high, drop_more sheet p 0 a, drop_more sheet (p + 1) 0 b, e)
+      byte_here sheet p (p + 1) (omega arith) refl
+      ∙ (ap (λ t. get_or sheet p 0 ∷ t) (byte_here sheet (p + 1) (p + 2) (omega arith) (omega arith))
+      ∙ ap (λ t. t ++ drop (p + 2) sheet) (sym (of_two _ _ (bytes p) (bytes (p + 1)))))
 
   four_here : (p : ℕ) → p + 4 ≤ length sheet → drop p sheet ≡ four_bytes (four_at sheet p) ++ drop (p + 4) sheet
   four_here p l =
-      let a : p < length sheet = omega arith in
-      let b : p + 1 < length sheet = omega arith in
-      let c : p + 2 < length sheet = omega arith in
-      let d : p + 3 < length sheet = omega arith in
-      let e : p + 1 + 1 ≡ p + 2 = omega arith in
-      let f : p + 2 + 1 ≡ p + 3 = omega arith in
-      let g : p + 3 + 1 ≡ p + 4 = omega arith in
-      let n = four_of (get_or sheet p 0) (get_or sheet (p + 1) 0) (get_or sheet (p + 2) 0) (get_or sheet (p + 3) 0) (bytes p) (bytes (p + 1)) (bytes (p + 2)) (bytes (p + 3)) in
-      rw (n.first, n.second, n.third, n.fourth, drop_more sheet p 0 a, drop_more sheet (p + 1) 0 b, e, drop_more sheet (p + 2) 0 c, f, drop_more sheet (p + 3) 0 d, g)
+      byte_here sheet p (p + 1) (omega arith) refl
+      ∙ (ap (λ t. get_or sheet p 0 ∷ t) (byte_here sheet (p + 1) (p + 2) (omega arith) (omega arith)
+      ∙ ap (λ t. get_or sheet (p + 1) 0 ∷ t) (byte_here sheet (p + 2) (p + 3) (omega arith) (omega arith)
+      ∙ ap (λ t. get_or sheet (p + 2) 0 ∷ t) (byte_here sheet (p + 3) (p + 4) (omega arith) (omega arith))))
+      ∙ ap (λ t. t ++ drop (p + 4) sheet) (sym (of_four _ _ _ _ (bytes p) (bytes (p + 1)) (bytes (p + 2)) (bytes (p + 3)))))
 
   -- the entry that starts at p
   abbrev entry_read : ℕ → List ℕ

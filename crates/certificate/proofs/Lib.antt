@@ -11,7 +11,6 @@ pub mod Same
 pub mod Support
 pub mod Truths
 pub mod Demanded
-pub mod Digits
 pub mod Layouts
 pub mod Rounds
 pub mod Exact

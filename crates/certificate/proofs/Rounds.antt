@@ -3,6 +3,7 @@ use Rattle.std.proofs.Common.{◌≡◌, ℕ, zero, suc, ◌+◌, ◌-◌, ◌/�
 use native.Mathlib.Nat.{sub-zero}
 use Rattle.std.specs.List.{range_with_len, flat_map}
 use Rattle.std.proofs.lemmas.List.{get_or-drop, drop-drop, drop_at, take_at, length-drop}
+use Rattle.std.proofs.lemmas.Nat.{from_le_bytes-to_le_bytes_2, from_le_bytes-to_le_bytes_4}
 use Rattle.std.proofs.lemmas.Bool.{cases_eq, eq-eqb, ne_eqb, le-leb}
 use Rattle.ballots.specs.declared.refusal.Refusal.TheVariants as refuse
 use Rattle.certificate.specs.Layout.{two_bytes, four_bytes, Claims, entry_bytes, claim_bytes, all_pairs, table_bytes, certificate_of}
@@ -10,7 +11,6 @@ use Rattle.certificate.specs.Reading.{two_at, four_at, count_at, cut_place, plac
 use Rattle.certificate.specs.Judge.{demand, reaches, stands}
 use Rattle.certificate.specs.Truth.{OfPairs}
 use Rattle.certificate.proofs.Accepted.{Met, met_more}
-use Rattle.certificate.proofs.Digits.{two_back, four_back}
 use Rattle.certificate.proofs.Fronts.{table_length}
 use Rattle.certificate.proofs.Places.{place_first, place_same, place_next, place_row}
 
@@ -41,11 +41,11 @@ module _ (sheet : List ℕ) where
       (stands_there (p + 1) bs rest (next p (b ∷ []) (bs ++ rest) h)))
 
   two_there : (p s : ℕ) (rest : List ℕ) → s < 65536 → drop p sheet ≡ two_bytes s ++ rest → two_at sheet p ≡ s
-  two_there p s rest l h = rw (first_there p (two_bytes s ++ rest) h, byte_there p 1 (two_bytes s ++ rest) h) (two_back s l)
+  two_there p s rest l h = rw (first_there p (two_bytes s ++ rest) h, byte_there p 1 (two_bytes s ++ rest) h) (from_le_bytes-to_le_bytes_2 s l)
 
   pub four_there : (p c : ℕ) (rest : List ℕ) → c < 2 ^ 32 → drop p sheet ≡ four_bytes c ++ rest → four_at sheet p ≡ c
   four_there p c rest l h =
-      rw (first_there p (four_bytes c ++ rest) h, byte_there p 1 (four_bytes c ++ rest) h, byte_there p 2 (four_bytes c ++ rest) h, byte_there p 3 (four_bytes c ++ rest) h) (four_back c l)
+      rw (first_there p (four_bytes c ++ rest) h, byte_there p 1 (four_bytes c ++ rest) h, byte_there p 2 (four_bytes c ++ rest) h, byte_there p 3 (four_bytes c ++ rest) h) (from_le_bytes-to_le_bytes_4 c l)
 
   -- an entry that starts at p
   pub record EntryThere (p s : ℕ) (path : List ℕ) (cut : ℕ) (rest : List ℕ) : Type 0 where

@@ -43,6 +43,7 @@ fn write_table(table: &Pairwise, writer: &mut Writer)
 }
 
 // Writes the entry of the pair x, y; a candidate has none with itself.
+#[tactic(auto, using(crate::proofs::Writing::claim_length, crate::proofs::Writing::path_count))]
 fn write_claim(strengths: &Strengths, writer: &mut Writer, x: usize, y: usize)
     requires { writer.old.at + length (claim_bytes (found_in strengths.now.pairwise) x y) ≤ length writer.old.sheet.now }
     ensures { Put (claim_bytes (found_in strengths.now.pairwise) x y) writer.old writer.new }

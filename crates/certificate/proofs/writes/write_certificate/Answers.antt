@@ -1,5 +1,5 @@
-use Rattle.std.proofs.Common.{length, refl, ap, arith, rules}
-use Rattle.certificate.proofs.Lengths.{front_length, entries_fit, wrote_certificate}
+use Rattle.std.proofs.Common.{refl, rules}
+use Rattle.certificate.proofs.Lengths.{wrote_certificate}
 use Rattle.certificate.proofs.Writing.{put_as, put_left}
 use Rattle.certificate.proofs.writes.write_certificate.Goals as goal
 

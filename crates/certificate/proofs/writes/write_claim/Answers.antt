@@ -15,14 +15,6 @@ room t x y at n ne h = omega (arith, claim_length (found_in t) x y ne)
 pub returns-then-x-y : goal.returns-then-x-y
 returns-then-x-y c = put_as (sym (claim_none _ _ _ c.if-x-y.true)) (put_none _)
 
-pub put-requires : goal.put-requires
-put-requires c =
-    let fits = room c.args.strengths.now.pairwise _ _ _ _ c.if-x-y.false c.requires in omega (arith, ap length c.to_le_bytes.ensures)
-
-pub put-requires-2 : goal.put-requires-2
-put-requires-2 c =
-    let fits = room c.args.strengths.now.pairwise _ _ _ _ c.if-x-y.false c.requires in omega (arith, ap length c.to_le_bytes.ensures)
-
 pub put-requires-3 : goal.put-requires-3
 put-requires-3 c =
     let fits = room c.args.strengths.now.pairwise _ _ _ _ c.if-x-y.false c.requires in
