@@ -48,7 +48,7 @@ fn orders_agree(strengths: &Strengths, slow: &SlowCount<'_>, tie_break: &TieBrea
     counted.candidates == slow.candidates && counted.places.starts_with(&expected)
 }
 
-// Whether the strengths, paths and cuts of all pairs and the best agree.
+// Whether the strengths, paths and cuts of all pairs and the best agree. Plain `for`s: each test has an error of its own.
 fn compare_answers(strengths: &Strengths, slow: &SlowCount<'_>) -> Result<(), Disagreement> {
     for x in 0..MOST {
         for y in 0..MOST {
