@@ -1,6 +1,5 @@
 // A provisional count, ballot by ballot.
 use crate::CIRCLE;
-use anyhow::anyhow;
 use provisional::Provisional;
 
 fn print_refused(rt: &HostRuntime, name: &str, candidates: usize) -> anyhow::Result<()> {
@@ -23,7 +22,7 @@ pub fn all(rt: &HostRuntime) -> anyhow::Result<()> {
     print_refused(rt, "no candidates", 0)?;
     print_refused(rt, "30 candidates", 30)?;
     print_refused(rt, "31 candidates", 31)?;
-    let mut count = Provisional::new(3).map_err(|refusal| anyhow!("{refusal}"))?;
+    let mut count = Provisional::new(3)?;
     for ballot in CIRCLE[3..].chunks(3) {
         add(rt, &mut count, ballot)?;
     }

@@ -58,9 +58,7 @@ fn certificate(heap: Global) -> anyhow::Result<Vec<u8>> {
     let mut table = [0u16; CELLS];
     let mut strengths = [0u16; CELLS];
     let mut sheet = vec![in heap; 0u8; LONGEST]?;
-    let certified = certify(&CIRCLE, &mut table, &mut strengths, &mut sheet).map_err(
-        |refusal| anyhow!("{refusal}"),
-    )?;
+    let certified = certify(&CIRCLE, &mut table, &mut strengths, &mut sheet)?;
     sheet.truncate(certified.length);
     Ok(sheet)
 }
