@@ -64,7 +64,7 @@ fn print_set(rt: &HostRuntime, set: u32) -> anyhow::Result<()> {
 }
 
 fn print_order(rt: &HostRuntime, order: &Order) -> anyhow::Result<()> {
-    for x in order.places.iter().take(order.candidates) {
+    for x in order.places.iter() {
         print!(rt; " {x}")?;
     }
     Ok(())
