@@ -76,14 +76,10 @@ passed_stop {s₀ = s₀} {s₁ = s₁} {e = e} xs ys m =
 
 -- bytes of pairs behind a first byte: one pair on, one that is refused, and the next row
 module _ (v : ℕ) (f : ℕ → ℕ → List ℕ) (x y : ℕ) {s₀ s₁ s₂ : Reader} where
-  passed_pair : {r : Result (Unit {0}) Refusal} {part : List ℕ} → part ≡ f x y → Passes (v ∷ before v f x y) s₀ s₁ (Ok tt) →
+  pub passed_pair : {r : Result (Unit {0}) Refusal} {part : List ℕ} → part ≡ f x y → Passes (v ∷ before v f x y) s₀ s₁ (Ok tt) →
       Passes part s₁ s₂ r → Passes (v ∷ before v f x (y + 1)) s₀ s₂ r
   passed_pair {r} e p m =
       subst (λ l. Passes (v ∷ l) s₀ s₂ r) (sym (before_next v f x y)) (passed_on (v ∷ before v f x y) (f x y) p (subst (λ l. Passes l s₁ s₂ r) e m))
-
-  pub pair_passed : {part : List ℕ} → part ≡ f x y → Passes (v ∷ before v f x y) s₀ s₁ (Ok tt) → Passes part s₁ s₂ (Ok tt) →
-      Passes (v ∷ before v f x (y + 1)) s₀ s₂ (Ok tt)
-  pair_passed e p m = passed_pair e p m
 
   pub pair_stopped : {e : Refusal} {part : List ℕ} → x < v → y < v → part ≡ f x y → Passes (v ∷ before v f x y) s₀ s₁ (Ok tt) →
       Passes part s₁ s₂ (Err e) → Passes (v ∷ all_pairs v f) s₀ s₂ (Err e)

@@ -28,34 +28,33 @@ impl<'a> Reader<'a> {
         ensures moved { Reaches count self.old self.new result }
         ensures bytes { IfOk result (λ b. b.now ≡ take count (drop self.old.at self.old.sheet.now)) }
     {
-        let end = self.sheet.len();
-        if end - self.at < count {
-            return Err(Refusal::Length { at: end });
-        }
-        let from = self.at;
-        self.at = from + count;
-        Ok(&self.sheet[from..from + count])
+        let Some(bytes) = self.sheet[self.at..].get(..count) else {
+            return Err(Refusal::Length {
+                at: self.sheet.len(),
+            });
+        };
+        self.at += count;
+        Ok(bytes)
     }
 
     // The next bytes, as many as the array has.
     fn array<const N: usize>(&mut self) -> Result<[u8; N], Refusal>
         ensures { Reads N (λ bs p. take N (drop p bs)) self.old self.new result }
     {
-        match self.sheet[self.at..].first_chunk::<N>() {
-            Some(array) => {
-                self.at += N;
-                Ok(*array)
-            }
-            None => Err(Refusal::Length {
+        let Some(array) = self.sheet[self.at..].first_chunk::<N>() else {
+            return Err(Refusal::Length {
                 at: self.sheet.len(),
-            }),
-        }
+            });
+        };
+        self.at += N;
+        Ok(*array)
     }
 
     pub fn byte(&mut self) -> Result<u8, Refusal>
         ensures { Reads 1 slice_index self.old self.new result }
     {
-        Ok(u8::from_le_bytes(self.array()?))
+        let [byte] = self.array::<1>()?;
+        Ok(byte)
     }
 
     // The number in the next two bytes, low byte first.
