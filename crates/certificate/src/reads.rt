@@ -13,6 +13,7 @@ pub(crate) struct Reader<'a> {
 
 impl<'a> Reader<'a> {
     ghost use Rattle.std.specs.Prelude.{◌≡◌, ◌+◌, take, drop, IfOk, slice_index};
+    ghost use Rattle.ballots.specs.declared.refusal.Refusal.TheVariants.{Length};
     ghost use Rattle.certificate.specs.Reading.{two_at, four_at};
     ghost use Rattle.certificate.specs.Progress.{Reaches, Reads, Ends};
 
@@ -23,16 +24,21 @@ impl<'a> Reader<'a> {
         Reader { sheet, at: 0 }
     }
 
+    // Why more bytes are not read.
+    fn too_short(&self) -> Refusal
+        ensures { result ≡ Length (length self.now.sheet.now) }
+    {
+        Refusal::Length {
+            at: self.sheet.len(),
+        }
+    }
+
     // The next bytes, as many as are asked for.
     pub fn take(&mut self, count: usize) -> Result<&'a [u8], Refusal>
         ensures moved { Reaches count self.old self.new result }
         ensures bytes { IfOk result (λ b. b.now ≡ take count (drop self.old.at self.old.sheet.now)) }
     {
-        let Some(bytes) = self.sheet[self.at..].get(..count) else {
-            return Err(Refusal::Length {
-                at: self.sheet.len(),
-            });
-        };
+        let bytes = self.sheet[self.at..].get(..count).ok_or(self.too_short())?;
         self.at += count;
         Ok(bytes)
     }
@@ -41,11 +47,9 @@ impl<'a> Reader<'a> {
     fn array<const N: usize>(&mut self) -> Result<[u8; N], Refusal>
         ensures { Reads N (λ bs p. take N (drop p bs)) self.old self.new result }
     {
-        let Some(array) = self.sheet[self.at..].first_chunk::<N>() else {
-            return Err(Refusal::Length {
-                at: self.sheet.len(),
-            });
-        };
+        let array = self.sheet[self.at..]
+            .first_chunk::<N>()
+            .ok_or(self.too_short())?;
         self.at += N;
         Ok(*array)
     }
