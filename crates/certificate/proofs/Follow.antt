@@ -1,6 +1,6 @@
 -- Following a row of candidates with the weakest win so far.
-use Rattle.std.proofs.Common.{◌≡◌, ℕ, ◌+◌, ◌-◌, ◌<◌, ◌≤◌, min, Bool, false, ◌&&◌, eqb, ltb, ◌≢◌, List, [], ◌∷◌, length, get_or, take, drop, sym, refl, ap, ◌∙◌, inl, inr, arith}
-use Rattle.std.proofs.lemmas.List.{at_drop_more, at_drop_all, take_all}
+use Rattle.std.proofs.Common.{◌≡◌, ℕ, ◌+◌, ◌<◌, ◌≤◌, min, Bool, false, ◌&&◌, eqb, ltb, ◌≢◌, List, [], ◌∷◌, length, get_or, drop, sym, refl, ap, ◌∙◌, inl, inr, arith}
+use Rattle.std.proofs.lemmas.List.{at_drop_more, at_drop_all}
 use Rattle.std.proofs.lemmas.Bool.{cases_lt, cases_eq, lt-ltb, le-ltb, eq-eqb, ne_eqb, and_right}
 use Rattle.std.proofs.lemmas.Bool.Decides.{nat_tests}
 use Rattle.pairwise.specs.declared.Pairwise.{Pairwise}
@@ -101,11 +101,6 @@ module _ (w : ℕ → ℕ → ℕ) (v y s : ℕ) (beyond : (a z : ℕ) → v ≤
       | inl z ↦ rw ((so_far.start z).0, so_far.whole) (follow_none x (eqb m s) rest ne (omega arith))
       | inr z ↦ sym (at_drop_all (follow last m) rest i h) ∙ so_far.on (omega arith)
     ]
-
--- a row by its first candidate
-pub first_and_rest : (row : List ℕ) (x : ℕ) → 1 ≤ length row → get_or row 0 0 ≡ x → row ≡ x ∷ take (length row - 1) (drop 1 row)
-first_and_rest [] x h e = absurd (let f : ⊥ = omega arith in f)
-first_and_rest (a ∷ zs) x h e = rw (e, take_all (length (a ∷ zs) - 1) zs (omega arith)) refl
 
 pub no_path : (w : ℕ → ℕ → ℕ) (v x y s : ℕ) (row : List ℕ) → length row < 1 → eqb s 0 ≡ is_path w v x y s row
 unfolding is_path

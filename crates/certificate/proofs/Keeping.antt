@@ -1,12 +1,10 @@
 -- The strengths that the checker keeps, one pair after the other.
-use Rattle.std.proofs.Common.{◌≡◌, ℕ, ◌+◌, ◌*◌, ◌<◌, ◌≤◌, ◌≢◌, ◌⊎◌, List, length, set, sym, refl, ◌∙◌, subst, inl, inr, arith}
+use Rattle.std.proofs.Common.{◌≡◌, ℕ, ◌+◌, ◌*◌, ◌<◌, ◌≤◌, ◌≢◌, ◌⊎◌, List, length, set, sym, ◌∙◌, inl, inr, arith}
 use Rattle.std.proofs.lemmas.List.{get_or-set_same, get_or-set_other}
-use Rattle.std.proofs.lemmas.Bool.{cases_eq, ne_eqb, lt-ltb}
+use Rattle.std.proofs.lemmas.Bool.{cases_eq, ne_eqb}
 use Rattle.ballots.specs.Format.{most_candidates}
-use Rattle.pairwise.specs.declared.grid.Grid.{Grid}
-use Rattle.pairwise.specs.Grids.{cells, entry}
-use Rattle.certificate.specs.Reading.{claims_in}
-use Rattle.certificate.specs.Progress.{claimed, Kept, KeptAll}
+use Rattle.pairwise.specs.Grids.{cells}
+use Rattle.certificate.specs.Progress.{claimed, Kept}
 
 module _ (v : ℕ) (sheet : List ℕ) where
   pub kept_row : (x y : ℕ) (cs : List ℕ) → y ≡ v → Kept v sheet x y cs → Kept v sheet (x + 1) 0 cs
@@ -29,18 +27,3 @@ module _ (v : ℕ) (sheet : List ℕ) where
           (a b : ℕ) → (a < x) ⊎ ((a ≡ x) × (b < y + 1)) → b < v → (a * most_candidates + b ≡ x * most_candidates + y → ⊥) →
           (a < x) ⊎ ((a ≡ x) × (b < y))
       before a b o l z = grind arith
-
-  pub kept_all : (x : ℕ) (g : Grid) → g.candidates ≡ v → x ≡ v → Kept v sheet x 0 g.cells → KeptAll v sheet g
-  kept_all x g e l k =
-      record {
-        candidates = e;
-        all = λ a b la lb ne. rw (e, lt-ltb a v la, lt-ltb b v lb) (k a b (inl (omega arith)) lb ne);
-      }
-
--- the strengths of a certificate that is the same are kept still
-pub kept_still : (v : ℕ) (sheet sheet' : List ℕ) (g : Grid) → sheet' ≡ sheet → KeptAll v sheet g → KeptAll g.candidates sheet' g
-kept_still v sheet sheet' g e k =
-    record {
-      candidates = refl;
-      all = subst (λ u. (x y : ℕ) → x < u → y < u → x ≢ y → entry g x y ≡ (claims_in u sheet').strength x y) (sym k.candidates) (rw e k.all);
-    }

@@ -1,5 +1,5 @@
 -- What is read from a certificate is what stands in it.
-use Rattle.std.proofs.Common.{◌≡◌, ℕ, zero, suc, ◌+◌, ◌-◌, ◌*◌, ◌<◌, ◌≤◌, eqb, List, [], ◌∷◌, ◌++◌, length, get_or, take, drop, sym, refl, ap, ◌∙◌, inl, inr, append_assoc, add-zero, arith}
+use Rattle.std.proofs.Common.{◌≡◌, ℕ, zero, suc, ◌+◌, ◌-◌, ◌*◌, ◌<◌, ◌≤◌, eqb, List, [], ◌∷◌, ◌++◌, length, get_or, take, drop, sym, refl, ap, ◌∙◌, subst, inl, inr, append_assoc, add-zero, arith}
 use Rattle.std.specs.List.{range_with_len, flat_map}
 use Rattle.std.proofs.lemmas.List.{drop_more, drop-drop, drop_all, take-append-drop, length-take-le, length-drop}
 use Rattle.std.proofs.lemmas.Nat.{le_bytes_2, le_bytes_4}
@@ -12,6 +12,7 @@ use Rattle.certificate.specs.Judge.{demand, stands, reaches, claim_demands, best
 use Rattle.certificate.proofs.Accepted.{Met, met_first, met_parts, met_pair}
 use Rattle.certificate.proofs.Demanded.{entry_met, best_met}
 use Rattle.certificate.proofs.Fronts.{table_length}
+use Rattle.certificate.proofs.Pairs.{parts_more}
 use Rattle.certificate.proofs.Places.{place_first, place_same, place_next, place_row, claim_other}
 
 -- bytes that stand from p on
@@ -88,22 +89,16 @@ module _ (sheet : List ℕ) (bytes : (i : ℕ) → get_or sheet i 0 < 256) where
       (drop_more sheet (p + 2) 0 c ∙ ap (λ z. k ∷ z) (ap (λ i. drop i sheet) e ∙ tail ∙ sym (append_assoc path cut rest)) ∙ ap (λ i. i ∷ ((path ++ cut) ++ rest)) (sym long))
 
 -- parts one behind the other
-parts_here : (sheet : List ℕ) (g : ℕ → List ℕ) (at : ℕ → ℕ) (a n : ℕ) →
-    ((i : ℕ) → i < a + n → drop (at i) sheet ≡ g i ++ drop (at (i + 1)) sheet) →
-    drop (at a) sheet ≡ flat_map g (range_with_len a n) ++ drop (at (a + n)) sheet
-parts_here sheet g at a zero h = rw add-zero
-parts_here sheet g at a (suc n) h =
-    let e : (a + 1) + n ≡ a + suc n = omega arith in
-    let r = parts_here sheet g at (a + 1) n (λ i u. h i (omega arith)) in
-    h a (omega arith) ∙ ap (λ z. g a ++ z) (r ∙ ap (λ i. flat_map g (range_with_len (a + 1) n) ++ drop (at i) sheet) e)
-    ∙ sym (append_assoc (g a) (flat_map g (range_with_len (a + 1) n)) (drop (at (a + suc n)) sheet))
-
 all_here : (sheet : List ℕ) (g : ℕ → List ℕ) (at : ℕ → ℕ) (n : ℕ) →
     ((i : ℕ) → i < n → drop (at i) sheet ≡ g i ++ drop (at (i + 1)) sheet) →
     drop (at 0) sheet ≡ flat_map g (range_with_len 0 n) ++ drop (at n) sheet
-all_here sheet g at n h =
-    let e : 0 + n ≡ n = omega arith in
-    parts_here sheet g at 0 n (λ i u. h i (omega arith)) ∙ ap (λ i. flat_map g (range_with_len 0 n) ++ drop (at i) sheet) e
+all_here sheet g at zero h = refl
+all_here sheet g at (suc n) h =
+    let front : List ℕ = flat_map g (range_with_len 0 n) in
+    let s : n + 1 ≡ suc n = omega arith in
+    subst (λ k. drop (at 0) sheet ≡ flat_map g (range_with_len 0 k) ++ drop (at k) sheet) s
+    (all_here sheet g at n (λ i u. h i (omega arith))
+    ∙ (ap (λ l. front ++ l) (h n (omega arith)) ∙ (sym (append_assoc front (g n) _) ∙ ap (λ l. l ++ drop (at (n + 1)) sheet) (sym (parts_more g n)))))
 
 -- an accepted certificate is the layout of what it claims
 module _ (v : ℕ) (n : ℕ → ℕ → ℕ) (sheet : List ℕ) (bytes : (i : ℕ) → get_or sheet i 0 < 256) where

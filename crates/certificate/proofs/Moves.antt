@@ -7,7 +7,7 @@ use Rattle.certificate.specs.declared.reads.Reader.{Reader}
 use Rattle.certificate.specs.Judge.{Demand, unmet, stands}
 use Rattle.certificate.specs.Progress.{refused, Moved, Passes}
 use Rattle.certificate.specs.Layout.{all_pairs}
-use Rattle.certificate.proofs.Pairs.{before, behind, before_next, before_row, before_all, all_before}
+use Rattle.certificate.proofs.Pairs.{before, behind, before_next, before_row, all_before}
 use Rattle.certificate.proofs.Accepted.{Met, met_first}
 
 -- what an answer says of the refusal
@@ -76,14 +76,10 @@ passed_stop {s₀ = s₀} {s₁ = s₁} {e = e} xs ys m =
 
 -- bytes of pairs behind a first byte: one pair on, one that is refused, and the next row
 module _ (v : ℕ) (f : ℕ → ℕ → List ℕ) (x y : ℕ) {s₀ s₁ s₂ : Reader} where
-  passed_pair : {r : Result (Unit {0}) Refusal} {part : List ℕ} → part ≡ f x y → Passes (v ∷ before v f x y) s₀ s₁ (Ok tt) →
+  pub passed_pair : {r : Result (Unit {0}) Refusal} {part : List ℕ} → part ≡ f x y → Passes (v ∷ before v f x y) s₀ s₁ (Ok tt) →
       Passes part s₁ s₂ r → Passes (v ∷ before v f x (y + 1)) s₀ s₂ r
   passed_pair {r} e p m =
       subst (λ l. Passes (v ∷ l) s₀ s₂ r) (sym (before_next v f x y)) (passed_on (v ∷ before v f x y) (f x y) p (subst (λ l. Passes l s₁ s₂ r) e m))
-
-  pub pair_passed : {part : List ℕ} → part ≡ f x y → Passes (v ∷ before v f x y) s₀ s₁ (Ok tt) → Passes part s₁ s₂ (Ok tt) →
-      Passes (v ∷ before v f x (y + 1)) s₀ s₂ (Ok tt)
-  pair_passed e p m = passed_pair e p m
 
   pub pair_stopped : {e : Refusal} {part : List ℕ} → x < v → y < v → part ≡ f x y → Passes (v ∷ before v f x y) s₀ s₁ (Ok tt) →
       Passes part s₁ s₂ (Err e) → Passes (v ∷ all_pairs v f) s₀ s₂ (Err e)
@@ -94,10 +90,6 @@ module _ (v : ℕ) (f : ℕ → ℕ → List ℕ) (x y : ℕ) {s₀ s₁ s₂ : 
 pub row_passed : (v : ℕ) (f : ℕ → ℕ → List ℕ) (x y : ℕ) {s₀ s₁ : Reader} → y ≡ v → Passes (v ∷ before v f x y) s₀ s₁ (Ok tt) →
     Passes (v ∷ before v f (x + 1) 0) s₀ s₁ (Ok tt)
 row_passed v f x y {s₀} {s₁} e p = subst (λ l. Passes (v ∷ l) s₀ s₁ (Ok tt)) (before_row v f x y e) p
-
-pub all_passed : (v : ℕ) (f : ℕ → ℕ → List ℕ) (x : ℕ) {s₀ s₁ : Reader} → x ≡ v → Passes (v ∷ before v f x 0) s₀ s₁ (Ok tt) →
-    Passes (v ∷ all_pairs v f) s₀ s₁ (Ok tt)
-all_passed v f x {s₀} {s₁} e p = subst (λ l. Passes (v ∷ l) s₀ s₁ (Ok tt)) (before_all v f x e) p
 
 -- demands of pairs: one pair on, one that is refused, and the next row
 module _ (v : ℕ) (demands : List ℕ → ℕ → ℕ → List Demand) (place : List ℕ → ℕ → ℕ → ℕ) (x y : ℕ) {s₀ s₁ s₂ : Reader} where
@@ -127,8 +119,3 @@ module _ (v : ℕ) (demands : List ℕ → ℕ → ℕ → List Demand) (place :
       Moved {A = Unit {0}} (before v (demands s₀.sheet.now) (x + 1) 0) (place s₀.sheet.now (x + 1) 0) s₀ s₁ (Ok tt)
   row_moved y e k m =
       record { refusal = m.refusal ∙ ap unmet (before_row v (demands s₀.sheet.now) x y e); stop = m.stop ∙ (ap (place s₀.sheet.now x) e ∙ k); same = m.same }
-
-  pub all_moved : {A : Type 0} {a : A} → x ≡ v → Moved {A = Unit {0}} (before v (demands s₀.sheet.now) x 0) (place s₀.sheet.now x 0) s₀ s₁ (Ok tt) →
-      Moved (all_pairs v (demands s₀.sheet.now)) (place s₀.sheet.now v 0) s₀ s₁ (Ok a)
-  all_moved e m =
-      record { refusal = m.refusal ∙ ap unmet (before_all v (demands s₀.sheet.now) x e); stop = m.stop ∙ ap (λ k. place s₀.sheet.now k 0) e; same = m.same }

@@ -43,9 +43,6 @@ module _ {A : Type 0} (v : ℕ) (f : ℕ → ℕ → List A) where
   pub before_row : (x y : ℕ) → y ≡ v → before x y ≡ before (x + 1) 0
   before_row x y e = rw e (sym (parts_more row x) ∙ sym (append-nil (flat_map row (range_with_len 0 (x + 1)))))
 
-  pub before_all : (x : ℕ) → x ≡ v → before x 0 ≡ all_pairs v f
-  before_all x e = rw e (append-nil (all_pairs v f))
-
   pub all_before : (x y : ℕ) → x < v → y < v → all_pairs v f ≡ before x (y + 1) ++ behind x y
   all_before x y lx ly =
       let front : List A = flat_map row (range_with_len 0 x) in

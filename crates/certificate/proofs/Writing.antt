@@ -12,7 +12,7 @@ use Rattle.paths.proofs.Written.{wrote_both}
 use Rattle.certificate.specs.declared.writes.Writer.{Writer}
 use Rattle.certificate.specs.Layout.{two_bytes, four_bytes, Claims, entry_bytes, claim_bytes, all_pairs}
 use Rattle.certificate.specs.Progress.{Put}
-use Rattle.certificate.proofs.Pairs.{before, behind, before_next, before_row, before_all, all_before}
+use Rattle.certificate.proofs.Pairs.{before, behind, before_next, before_row, all_before}
 
 -- nothing, a part copied, and parts one behind the other
 pub put_none : (a : Writer) → Put [] a a
@@ -57,9 +57,6 @@ module _ (front : List ℕ) (v : ℕ) (f : ℕ → ℕ → List ℕ) (x y : ℕ)
 
   pub row_put : {a b : Writer} → y ≡ v → Put (front ++ before v f x y) a b → Put (front ++ before v f (x + 1) 0) a b
   row_put e p = put_as (ap (λ l. front ++ l) (before_row v f x y e)) p
-
-pub all_put : (front : List ℕ) (v : ℕ) (f : ℕ → ℕ → List ℕ) (x : ℕ) {a b : Writer} → x ≡ v → Put (front ++ before v f x 0) a b → Put (front ++ all_pairs v f) a b
-all_put front v f x e p = put_as (ap (λ l. front ++ l) (before_all v f x e)) p
 
 -- the path of a pair is read from the front of what it was written to
 module _ (t : Pairwise) (x y : ℕ) (old new : List ℕ) (r : ℕ) (w : PathWritten t x y 0 old new r) (size : length old ≡ most_candidates) where

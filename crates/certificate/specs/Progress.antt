@@ -1,4 +1,4 @@
--- How far the checker has come: where its reader stands, and the strengths that it has kept. Assumes nothing.
+-- How far a certificate is read, with the strengths that are kept of it, and how far one is written. Assumes nothing.
 use Rattle.std.specs.Prelude.{◌≡◌, ℕ, ◌+◌, ◌<◌, ◌≢◌, ◌⊎◌, List, [], ◌∷◌, length, Some, None, Ok, Err, Option, Result, IfOk, OnOk, cond, ◌==◌, nat_le}
 use Rattle.ballots.specs.declared.refusal.Refusal.{Refusal}
 use Rattle.ballots.specs.declared.refusal.Refusal.TheVariants as refuse
@@ -6,11 +6,13 @@ use Rattle.ballots.specs.Lending.{answered}
 use Rattle.pairwise.specs.declared.Pairwise.{Pairwise}
 use Rattle.pairwise.specs.declared.grid.Grid.{Grid}
 use Rattle.pairwise.specs.Grids.{cell, entry}
+use Rattle.pairwise.specs.Tables.{win_in}
 use Rattle.paths.specs.Found.{Wrote}
 use Rattle.certificate.specs.declared.reads.Reader.{Reader}
 use Rattle.certificate.specs.declared.writes.Writer.{Writer}
-use Rattle.certificate.specs.Reading.{claims_in}
-use Rattle.certificate.specs.Judge.{Demand, unmet, reaches, stands, demands}
+use Rattle.certificate.specs.Layout.{all_pairs}
+use Rattle.certificate.specs.Reading.{place, best_place, claims_in}
+use Rattle.certificate.specs.Judge.{Demand, unmet, reaches, stands, entry_demands, claim_demands, demands}
 
 -- the refusal, if there is one
 abbrev pub refused : {A : Type 0} → Result A Refusal → Option Refusal
@@ -48,6 +50,27 @@ demands_in t sheet = demands t.counts.candidates (entry t.counts) sheet
 abbrev pub claimed : ℕ → List ℕ → ℕ → ℕ → ℕ
 claimed v sheet x y = cond (x == y) 0 ((claims_in v sheet).strength x y)
 
+-- the reader stands where the entry of the pair x, y starts
+abbrev pub At : Pairwise → ℕ → ℕ → Reader → Type 0
+At t x y reader = reader.at ≡ place t.counts.candidates reader.sheet.now x y
+
+-- from there the demands are met, the strength s is answered, and the reader stands behind the entry; or the refusal of the first that is not
+pub record ReadsPair (demands : List Demand) (s : ℕ) (t : Pairwise) (x y : ℕ) (old new : Reader) (r : Result ℕ Refusal) : Type 0 where
+  pub moved : Moved demands (place t.counts.candidates old.sheet.now x (y + 1)) old new r
+  pub strength : IfOk r (λ a. a ≡ s)
+
+-- the entry of the pair x, y is read
+abbrev pub ReadsEntry : Pairwise → ℕ → ℕ → Reader → Reader → Result ℕ Refusal → Type 0
+ReadsEntry t x y old new r =
+    let v : ℕ = t.counts.candidates in
+    ReadsPair (entry_demands (win_in t) v old.sheet.now x y) ((claims_in v old.sheet.now).strength x y) t x y old new r
+
+-- the same of each pair, where a candidate has no entry with itself
+abbrev pub ReadsClaim : Pairwise → ℕ → ℕ → Reader → Reader → Result ℕ Refusal → Type 0
+ReadsClaim t x y old new r =
+    let v : ℕ = t.counts.candidates in
+    ReadsPair (claim_demands (win_in t) v old.sheet.now x y) (claimed v old.sheet.now x y) t x y old new r
+
 -- the cells have the strengths that the certificate claims of the pairs before x, y
 abbrev pub Kept : ℕ → List ℕ → ℕ → ℕ → List ℕ → Type 0
 Kept v sheet x y cs =
@@ -57,6 +80,12 @@ Kept v sheet x y cs =
 pub record KeptAll (v : ℕ) (sheet : List ℕ) (strengths : Grid) : Type 0 where
   pub candidates : strengths.candidates ≡ v
   pub all : (x y : ℕ) → x < v → y < v → x ≢ y → entry strengths x y ≡ (claims_in v sheet).strength x y
+
+-- all entries are read, and the strengths in them are answered
+pub record ReadsEntries (t : Pairwise) (old new : Reader) (r : Result Grid Refusal) : Type 0 where
+  pub moved : Moved (all_pairs t.counts.candidates (claim_demands (win_in t) t.counts.candidates old.sheet.now))
+      (best_place t.counts.candidates old.sheet.now) old new r
+  pub kept : IfOk r (KeptAll t.counts.candidates old.sheet.now)
 
 -- the bytes are written behind those that were, all else is as it was, and the writer holds the same slice
 pub record Put (bytes : List ℕ) (old new : Writer) : Type 0 where

@@ -1,10 +1,6 @@
 // The entries of a certificate: one for each pair of different candidates.
-ghost use Rattle.std.specs.Prelude.{◌≡◌, ◌<◌, ◌≢◌, ◌+◌, IfOk};
-ghost use Rattle.pairwise.specs.Tables.{win_in};
-ghost use Rattle.certificate.specs.Layout.{all_pairs};
-ghost use Rattle.certificate.specs.Reading.{table_end, place, best_place, claims_in};
-ghost use Rattle.certificate.specs.Judge.{entry_demands, claim_demands};
-ghost use Rattle.certificate.specs.Progress.{Moved, claimed, KeptAll};
+ghost use Rattle.std.specs.Prelude.{◌<◌, ◌≢◌};
+ghost use Rattle.certificate.specs.Progress.{At, ReadsEntry, ReadsClaim, ReadsEntries};
 
 use crate::claims::{is_cut, is_path};
 use crate::reads::Reader;
@@ -15,9 +11,8 @@ use pairwise::{CELLS, Grid, Pairwise};
 #[tactic(auto, using(std::proofs::lemmas::Bool::Decides::nat_tests, crate::proofs::Places::place_next), unfolding(crate::specs::Judge::entry_demands))]
 fn check_entry(table: &Pairwise, reader: &mut Reader, x: usize, y: usize) -> Result<u16, Refusal>
     requires pair { (x < table.now.counts.candidates) × ((y < table.now.counts.candidates) × (x ≢ y)) }
-    requires here { reader.old.at ≡ place table.now.counts.candidates reader.old.sheet.now x y }
-    ensures moved { Moved (entry_demands (win_in table.now) table.now.counts.candidates reader.old.sheet.now x y) (place table.now.counts.candidates reader.old.sheet.now x (y + 1)) reader.old reader.new result }
-    ensures strength { IfOk result (λ s. s ≡ (claims_in table.now.counts.candidates reader.old.sheet.now).strength x y) }
+    requires here { At table.now x y reader.old }
+    ensures { ReadsEntry table.now x y reader.old reader.new result }
 {
     let strength = reader.number()?;
     let count = reader.byte()?;
@@ -41,9 +36,8 @@ fn check_entry(table: &Pairwise, reader: &mut Reader, x: usize, y: usize) -> Res
 // The same for any pair: a candidate has no entry with itself, and the strength 0.
 fn check_claim(table: &Pairwise, reader: &mut Reader, x: usize, y: usize) -> Result<u16, Refusal>
     requires pair { (x < table.now.counts.candidates) × (y < table.now.counts.candidates) }
-    requires here { reader.old.at ≡ place table.now.counts.candidates reader.old.sheet.now x y }
-    ensures moved { Moved (claim_demands (win_in table.now) table.now.counts.candidates reader.old.sheet.now x y) (place table.now.counts.candidates reader.old.sheet.now x (y + 1)) reader.old reader.new result }
-    ensures strength { IfOk result (λ s. s ≡ claimed table.now.counts.candidates reader.old.sheet.now x y) }
+    requires here { At table.now x y reader.old }
+    ensures { ReadsClaim table.now x y reader.old reader.new result }
 {
     if x == y {
         return Ok(0);
@@ -53,9 +47,8 @@ fn check_claim(table: &Pairwise, reader: &mut Reader, x: usize, y: usize) -> Res
 
 // Reads the entries of all pairs, and answers the strengths in them.
 pub(crate) fn check_entries(table: &Pairwise, reader: &mut Reader) -> Result<Grid, Refusal>
-    requires { reader.old.at ≡ table_end table.now.counts.candidates }
-    ensures moved { Moved (all_pairs table.now.counts.candidates (claim_demands (win_in table.now) table.now.counts.candidates reader.old.sheet.now)) (best_place table.now.counts.candidates reader.old.sheet.now) reader.old reader.new result }
-    ensures kept { IfOk result (KeptAll table.now.counts.candidates reader.old.sheet.now) }
+    requires { At table.now 0 0 reader.old }
+    ensures { ReadsEntries table.now reader.old reader.new result }
 {
     let candidates = table.counts.candidates;
     let mut cells = [0; CELLS];

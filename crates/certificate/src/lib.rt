@@ -17,6 +17,7 @@ pub use certifies::{certify, certify_strengths};
 pub use checks::check;
 
 // How many bytes have room for every certificate: that of most candidates, with all of them on the path of each pair.
+// Written out, since a constant calls no function.
 pub const LONGEST: usize = 1
     + CELLS * 2
     + MOST_CANDIDATES * (MOST_CANDIDATES - 1) * (7 + MOST_CANDIDATES)

@@ -3,7 +3,8 @@ ghost use Rattle.std.specs.Prelude.{◌≤◌, length};
 
 use ballots::Refusal;
 
-// A certificate, and how far it is read.
+// A certificate, and how far it is read. The table that it is checked against is passed beside it: in here, each contract
+// would have to say that the table stays.
 #[derive(Drop)]
 pub(crate) struct Reader<'a> {
     pub sheet: &'a [u8],
@@ -13,6 +14,7 @@ pub(crate) struct Reader<'a> {
 
 impl<'a> Reader<'a> {
     ghost use Rattle.std.specs.Prelude.{◌≡◌, ◌+◌, take, drop, IfOk, slice_index};
+    ghost use Rattle.ballots.specs.declared.refusal.Refusal.TheVariants.{Length};
     ghost use Rattle.certificate.specs.Reading.{two_at, four_at};
     ghost use Rattle.certificate.specs.Progress.{Reaches, Reads, Ends};
 
@@ -23,39 +25,41 @@ impl<'a> Reader<'a> {
         Reader { sheet, at: 0 }
     }
 
+    // Why more bytes are not read.
+    fn too_short(&self) -> Refusal
+        ensures { result ≡ Length (length self.now.sheet.now) }
+    {
+        Refusal::Length {
+            at: self.sheet.len(),
+        }
+    }
+
     // The next bytes, as many as are asked for.
     pub fn take(&mut self, count: usize) -> Result<&'a [u8], Refusal>
         ensures moved { Reaches count self.old self.new result }
         ensures bytes { IfOk result (λ b. b.now ≡ take count (drop self.old.at self.old.sheet.now)) }
     {
-        let end = self.sheet.len();
-        if end - self.at < count {
-            return Err(Refusal::Length { at: end });
-        }
-        let from = self.at;
-        self.at = from + count;
-        Ok(&self.sheet[from..from + count])
+        let bytes = self.sheet[self.at..].get(..count).ok_or(self.too_short())?;
+        self.at += count;
+        Ok(bytes)
     }
 
     // The next bytes, as many as the array has.
     fn array<const N: usize>(&mut self) -> Result<[u8; N], Refusal>
         ensures { Reads N (λ bs p. take N (drop p bs)) self.old self.new result }
     {
-        match self.sheet[self.at..].first_chunk::<N>() {
-            Some(array) => {
-                self.at += N;
-                Ok(*array)
-            }
-            None => Err(Refusal::Length {
-                at: self.sheet.len(),
-            }),
-        }
+        let array = self.sheet[self.at..]
+            .first_chunk::<N>()
+            .ok_or(self.too_short())?;
+        self.at += N;
+        Ok(*array)
     }
 
     pub fn byte(&mut self) -> Result<u8, Refusal>
         ensures { Reads 1 slice_index self.old self.new result }
     {
-        Ok(u8::from_le_bytes(self.array()?))
+        let [byte] = self.array::<1>()?;
+        Ok(byte)
     }
 
     // The number in the next two bytes, low byte first.

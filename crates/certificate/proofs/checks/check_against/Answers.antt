@@ -2,7 +2,6 @@ use Rattle.std.proofs.Common.{ap, ◌∙◌}
 use Rattle.std.proofs.lemmas.Result.{err_from_is_err_and}
 use Rattle.ballots.specs.Lending.{answered}
 use Rattle.certificate.proofs.Fronts.{table_refused, entries_at, entries_refused, up_to_best}
-use Rattle.certificate.proofs.Keeping.{kept_still}
 use Rattle.certificate.proofs.checks.check_against.Goals as goal
 
 pub returns-in_err-check_table : goal.returns-in_err-check_table
@@ -18,14 +17,6 @@ pub returns-in_err-strengths : goal.returns-in_err-strengths
 returns-in_err-strengths c =
     let p = err_from_is_err_and c.from_residual-in_err-strengths.result c.from_residual-in_err-strengths.ensures.1 in
     rw (p.1, p.2) (entries_refused c.args.table.now c.args.sheet.now _ _ c.new-reader.ensures.front c.new-reader.ensures.whole c.in_ok-check_table.ensures _ _ c.in_err-strengths.ensures.moved)
-
-pub check_best-requires : goal.check_best-requires
-check_best-requires c =
-    let k = c.in_ok-strengths.ensures in
-    record {
-      here = rw (k.kept.candidates, k.moved.same) k.moved.stop;
-      kept = kept_still _ _ _ _ k.moved.same k.kept;
-    }
 
 pub returns : goal.returns
 returns c =

@@ -1,12 +1,12 @@
-use Rattle.std.proofs.Common.{◌≡◌, ℕ, List, sym, refl, ◌∙◌, arith, rules, length-set}
+use Rattle.std.proofs.Common.{ℕ, List, refl, ◌∙◌, arith, rules, length-set}
 use Rattle.std.proofs.lemmas.Result.{err_from_is_err_and}
 use Rattle.pairwise.specs.declared.Pairwise.{Pairwise}
 use Rattle.pairwise.specs.Tables.{win_in}
 use Rattle.certificate.specs.Reading.{place}
 use Rattle.certificate.specs.Judge.{Demand, claim_demands}
-use Rattle.certificate.proofs.Places.{place_first, place_row}
-use Rattle.certificate.proofs.Moves.{moved_none, pair_moved, pair_refused, row_moved, all_moved}
-use Rattle.certificate.proofs.Keeping.{kept_next, kept_row, kept_all}
+use Rattle.certificate.proofs.Places.{place_row}
+use Rattle.certificate.proofs.Moves.{moved_none, pair_moved, pair_refused, row_moved}
+use Rattle.certificate.proofs.Keeping.{kept_next, kept_row}
 use Rattle.certificate.proofs.entries.check_entries.Goals as goal
 
 abbrev demanded : Pairwise → List ℕ → ℕ → ℕ → List Demand
@@ -15,17 +15,20 @@ demanded t = claim_demands (win_in t) t.counts.candidates
 pub loop-x-init : goal.loop-x-init
 loop-x-init c =
     record {
-      moved = moved_none _ _ (c.requires ∙ sym (place_first c.args.table.now.counts.candidates c.args.reader.now.sheet.now));
+      moved = moved_none _ _ c.requires;
       size = refl;
       kept = λ a b o l ne. absurd (let f : ⊥ = grind arith in f);
     }
 
-pub returns-in_err-cells-clause-moved : goal.returns-in_err-cells-clause-moved
-returns-in_err-cells-clause-moved c =
+pub returns-in_err-cells : goal.returns-in_err-cells
+returns-in_err-cells c =
     let t = c.args.table.now in
     let p = err_from_is_err_and c.from_residual.result c.from_residual.ensures.1 in
-    rw (p.1, p.2) (pair_refused t.counts.candidates (demanded t) (place t.counts.candidates) _ _ _ c.loop-x-test.true c.loop-y-test.true
-    c.loop-y.invariant.moved c.in_err-cells.ensures.moved)
+    record {
+      moved = rw (p.1, p.2) (pair_refused t.counts.candidates (demanded t) (place t.counts.candidates) _ _ _ c.loop-x-test.true c.loop-y-test.true
+          c.loop-y.invariant.moved c.in_err-cells.ensures.moved);
+      kept = rw p.1 tt;
+    }
 
 pub loop-y-preserved : goal.loop-y-preserved
 loop-y-preserved c =
@@ -43,13 +46,4 @@ loop-x-preserved c =
       moved = row_moved t.counts.candidates (demanded t) (place t.counts.candidates) _ _ (omega arith) (place_row _ _ _) c.loop-y.invariant.moved;
       size = c.loop-y.invariant.size;
       kept = kept_row t.counts.candidates c.args.reader.now.sheet.now _ _ c.loop-y.cells (omega arith) c.loop-y.invariant.kept;
-    }
-
-pub returns : goal.returns
-returns c =
-    let t = c.args.table.now in
-    let e : c.loop-x.x ≡ t.counts.candidates = omega arith in
-    record {
-      moved = all_moved t.counts.candidates (demanded t) (place t.counts.candidates) _ e c.loop-x.invariant.moved;
-      kept = kept_all _ _ _ _ refl e c.loop-x.invariant.kept;
     }

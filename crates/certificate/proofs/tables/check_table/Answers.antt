@@ -3,7 +3,7 @@ use Rattle.std.proofs.lemmas.Result.{err_from_is_err_and}
 use Rattle.pairwise.specs.declared.Pairwise.{Pairwise}
 use Rattle.pairwise.specs.Grids.{entry}
 use Rattle.certificate.specs.Layout.{two_bytes}
-use Rattle.certificate.proofs.Moves.{pair_passed, pair_stopped, row_passed, all_passed}
+use Rattle.certificate.proofs.Moves.{passed_pair, pair_stopped, row_passed}
 use Rattle.certificate.proofs.tables.check_table.Goals as goal
 
 abbrev count_bytes : Pairwise → ℕ → ℕ → List ℕ
@@ -17,10 +17,7 @@ returns-in_err-check_number c =
 
 pub loop-y-preserved : goal.loop-y-preserved
 loop-y-preserved c =
-    pair_passed _ (count_bytes c.args.table.now) _ _ (ap two_bytes c.preferring.ensures) c.loop-y.invariant c.in_ok-check_number.ensures
+    passed_pair _ (count_bytes c.args.table.now) _ _ (ap two_bytes c.preferring.ensures) c.loop-y.invariant c.in_ok-check_number.ensures
 
 pub loop-x-preserved : goal.loop-x-preserved
 loop-x-preserved c = row_passed _ (count_bytes c.args.table.now) _ _ (omega arith) c.loop-y.invariant
-
-pub returns : goal.returns
-returns c = all_passed _ (count_bytes c.args.table.now) _ (omega arith) c.loop-x.invariant

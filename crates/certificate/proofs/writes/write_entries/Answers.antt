@@ -1,7 +1,7 @@
 use Rattle.std.proofs.Common.{[], arith}
 use Rattle.certificate.specs.Layout.{claim_bytes}
 use Rattle.certificate.specs.Parts.{found_in}
-use Rattle.certificate.proofs.Writing.{put_none, pair_fits, pair_put, row_put, all_put}
+use Rattle.certificate.proofs.Writing.{put_none, pair_fits, pair_put, row_put}
 use Rattle.certificate.proofs.writes.write_entries.Goals as goal
 
 pub loop-x-init : goal.loop-x-init
@@ -20,7 +20,3 @@ loop-y-preserved c =
 pub loop-x-preserved : goal.loop-x-preserved
 loop-x-preserved c =
     let t = c.args.strengths.now.pairwise in row_put [] t.counts.candidates (claim_bytes (found_in t)) _ _ (omega arith) c.loop-y.invariant
-
-pub returns : goal.returns
-returns c =
-    let t = c.args.strengths.now.pairwise in all_put [] t.counts.candidates (claim_bytes (found_in t)) _ (omega arith) c.loop-x.invariant

@@ -2,7 +2,7 @@ use Rattle.std.proofs.Common.{ℕ, [], ◌∷◌, List, length, ap, ◌∙◌, a
 use Rattle.pairwise.specs.declared.Pairwise.{Pairwise}
 use Rattle.pairwise.specs.Grids.{entry}
 use Rattle.certificate.specs.Layout.{two_bytes}
-use Rattle.certificate.proofs.Writing.{put_as, pair_fits, pair_put, row_put, all_put}
+use Rattle.certificate.proofs.Writing.{put_as, pair_fits, pair_put, row_put}
 use Rattle.certificate.proofs.writes.write_table.Goals as goal
 
 abbrev head : Pairwise → List ℕ
@@ -25,6 +25,3 @@ loop-y-preserved c =
 
 pub loop-x-preserved : goal.loop-x-preserved
 loop-x-preserved c = let t = c.args.table.now in row_put (head t) t.counts.candidates (part t) _ _ (omega arith) c.loop-y.invariant
-
-pub returns : goal.returns
-returns c = let t = c.args.table.now in all_put (head t) t.counts.candidates (part t) _ (omega arith) c.loop-x.invariant
