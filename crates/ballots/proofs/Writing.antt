@@ -1,19 +1,18 @@
 -- The struck file, written row by row to the front of what is lent.
-use Rattle.std.proofs.Common.{◌≡◌, ℕ, ◌+◌, ◌*◌, ◌<◌, ◌≤◌, Bool, cond, eqb, ltb, ◌≢◌, List, ◌++◌, length, take, drop, Some, None, Ok, Err, Option, refl, ◌∙◌, add-mul, arith}
+use Rattle.std.proofs.Common.{◌≡◌, ℕ, ◌+◌, ◌*◌, ◌<◌, ◌≤◌, Bool, cond, eqb, ltb, ◌≢◌, List, ◌++◌, length, take, drop, Some, None, Ok, Err, sym, refl, ◌∙◌, add-mul, arith}
 use borrow.Rule.Slice.PartMut.{put_mid}
 use Rattle.std.proofs.lemmas.List.{take_at}
 use Rattle.std.proofs.lemmas.Slice.{drop-append-drop}
 use Rattle.std.proofs.lemmas.Bool.{ne_eqb, lt-ltb, le-ltb}
 use Rattle.std.proofs.lemmas.Bool.Decides.{nat_tests}
 use Rattle.ballots.specs.declared.refusal.Lent.TheVariants as lent
-use Rattle.ballots.specs.declared.refusal.Refusal.{Refusal}
 use Rattle.ballots.specs.declared.refusal.Refusal.TheVariants.{Candidates, Short}
 use Rattle.ballots.specs.Format.{header_length, candidates_in, ballots_in, ballot_bytes}
-use Rattle.ballots.specs.Lending.{or_else, answered}
 use Rattle.ballots.specs.Refusals.{refusal}
 use Rattle.ballots.specs.Sets.{holds}
 use Rattle.ballots.specs.Strikes.{kept, ranks_at, struck, strike_refusal, Strikes}
 use Rattle.ballots.proofs.Kept.{found}
+use Rattle.ballots.proofs.Lending.{answered_ok, neither}
 use Rattle.ballots.proofs.Products.{rows_more, row_behind, length_joined}
 use Rattle.ballots.proofs.Struck.{struck_row, length_struck_row, first_struck, struck_is, length_struck, strike_keeps_ranks}
 
@@ -62,26 +61,18 @@ pub record StruckFront (bs old : List ℕ) (keep n : ℕ) (new : List ℕ) : Typ
   pub front : take n new ≡ struck (holds keep) bs
   pub accepted : refusal (struck (holds keep) bs) ≡ None
 
-neither : (first second : Option Refusal) → or_else first second ≡ None → (first ≡ None) × (second ≡ None)
-neither None second h = (refl, h)
-neither (Some e) second h = let z : ◌≡◌ {A = ℕ} 0 1 = cc in absurd (omega arith)
-
-said : (refused : Option Refusal) (n m : ℕ) → Ok n ≡ answered refused m → (refused ≡ None) × (n ≡ m)
-said None n m h = (refl, cc)
-said (Some e) n m h = let z : ◌≡◌ {A = ℕ} 0 1 = cc in absurd (omega arith)
-
 some_stay : (stay room l : ℕ) → cond (eqb stay 0) (Some Candidates) (cond (ltb room l) (Some (Short lent.Ballots)) None) ≡ None → 0 < stay
 some_stay stay room l h = grind (arith, nat_tests)
 
 pub struck_front : (bs old new : List ℕ) (keep n : ℕ) → Strikes bs keep old new (Ok n) → StruckFront bs old keep n new
 struck_front bs old new keep n s =
-    let (through, m) = said (strike_refusal bs keep (length old)) n (length (struck (holds keep) bs)) s.answer in
+    let (through, m) = answered_ok (strike_refusal bs keep (length old)) (length (struck (holds keep) bs)) n (sym s.answer) in
     let (none, rest) = neither (refusal bs) _ through in
     let stay = some_stay (length (kept (holds keep) (candidates_in bs))) (length old) (length (struck (holds keep) bs)) rest in
     let (xv, kx, _) = found (holds keep) (candidates_in bs) 0 stay in
     let after : new ≡ struck (holds keep) bs ++ drop (length (struck (holds keep) bs)) old = rw through at s.after in
     record {
       not_refused = through;
-      front = rw (m, after) (take_at (struck (holds keep) bs) (drop (length (struck (holds keep) bs)) old) _ refl);
+      front = rw (← m, after) (take_at (struck (holds keep) bs) (drop (length (struck (holds keep) bs)) old) _ refl);
       accepted = (strike_keeps_ranks (holds keep) bs _ none xv kx).accepted;
     }

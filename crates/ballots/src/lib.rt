@@ -11,5 +11,5 @@ mod strikes;
 pub use file::{BallotFile, Ballots, MOST_CANDIDATES};
 pub use reads::read;
 pub use refusal::{Lent, Refusal};
-pub use sets::holds;
+pub use sets::{holds, set_of};
 pub use strikes::strike;

@@ -1,7 +1,11 @@
 -- The first in a tie-break order.
-use Rattle.std.proofs.Common.{◌≡◌, ℕ, zero, suc, ◌+◌, ◌<◌, Bool, true, false, ◌≢◌, List, Some, None, Option, sym, ◌∙◌, inl, inr, add-one, arith}
+use Rattle.std.proofs.Common.{◌≡◌, ℕ, zero, suc, ◌+◌, ◌<◌, Bool, true, false, ◌≢◌, List, Some, None, Option, sym, refl, ap, ◌∙◌, inl, inr, arith}
 use Rattle.std.proofs.lemmas.Bool.{cases_eq, cases_Bool}
 use Rattle.std.proofs.lemmas.Bool.Decides.{nat_tests}
+use Rattle.std.specs.List.{fold}
+use Rattle.std.proofs.lemmas.List.Sums.{fold_push}
+use Rattle.ballots.specs.Strikes.{kept}
+use Rattle.ballots.proofs.Kept.{kept_none, kept_in, kept_out}
 use Rattle.best.specs.Orders.{IsTieBreak}
 use Rattle.best.specs.Compared.{before_by, earlier, first_below}
 
@@ -68,11 +72,13 @@ module _ (before : ℕ → ℕ → Bool) (tie : IsTieBreak before) (f : ℕ → 
             first = λ z l fz ne. elim (cases_eq z n) [ inl e ↦ (let k : f n ≡ true = rw e at fz in absurd (let b : ⊥ = grind (arith, nat_tests) in b)) | inr e ↦ h.first z (omega arith) fz ne ];
           }
 
--- one more that passes, and one that does not
-pub first_takes : (before : ℕ → ℕ → Bool) (f : ℕ → Bool) (n : ℕ) → f n ≡ true →
-    Some (earlier before (first_below before f n) n) ≡ first_below before f (n + 1)
-first_takes before f n h = rw (add-one, h)
-
-pub first_passes : (before : ℕ → ℕ → Bool) (f : ℕ → Bool) (n : ℕ) → f n ≡ false →
-    first_below before f n ≡ first_below before f (n + 1)
-first_passes before f n h = rw (add-one, h)
+-- found by going through those of whom f holds
+pub first_folded : (before : ℕ → ℕ → Bool) (f : ℕ → Bool) (n : ℕ) → fold (λ found x. Some (earlier before found x)) None (kept f n) ≡ first_below before f n
+first_folded before f zero = rw (kept_none f) refl
+first_folded before f (suc n) =
+    let e : suc n ≡ n + 1 = omega arith in
+    let pick : Option ℕ → ℕ → Option ℕ = λ found x. Some (earlier before found x) in
+    elim (cases_Bool (f n)) [
+      | inl h ↦ rw (h, e, kept_in f n h) (fold_push pick None (kept f n) n ∙ ap (λ found. pick found n) (first_folded before f n))
+      | inr h ↦ rw (h, e, kept_out f n h) (first_folded before f n)
+    ]

@@ -8,7 +8,7 @@ ghost use Rattle.paths.specs.Strengths.{strength_in};
 ghost use Rattle.best.specs.Best.{Ahead};
 ghost use Rattle.best.specs.Compared.{ahead_by, unbeaten_by, best_by, BestSet};
 
-use ballots::MOST_CANDIDATES;
+use ballots::{MOST_CANDIDATES, set_of};
 use pairwise::Grid;
 use paths::Strengths;
 
@@ -39,13 +39,7 @@ pub fn best_by(strengths: &Grid) -> u32
     ensures { result ≡ best_by (entry strengths.now) strengths.now.candidates }
 {
     let everybody = [true; MOST_CANDIDATES];
-    let mut set: u32 = 0;
-    for x in 0..strengths.candidates {
-        if unbeaten(strengths, &everybody, x) {
-            set |= 1 << x;
-        }
-    }
-    set
+    set_of(strengths.candidates, |x| unbeaten(strengths, &everybody, x))
 }
 
 // The set of the best: the candidates of whom nobody is ahead.

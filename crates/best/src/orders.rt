@@ -55,13 +55,9 @@ impl TieBreak {
 fn next(strengths: &Grid, tie_break: &TieBreak, left: &[bool; MOST_CANDIDATES]) -> Option<usize>
     ensures { result ≡ next_by (entry strengths.now) strengths.now.candidates (before_by tie_break.now.keys) (λ y. slice_index_or left.now y false) }
 {
-    let mut found: Option<usize> = None;
-    for x in 0..strengths.candidates {
-        if left[x] && unbeaten(strengths, left, x) {
-            found = Some(tie_break.earlier(found, x));
-        }
-    }
-    found
+    (0..strengths.candidates)
+        .filter(|x| left[*x] && unbeaten(strengths, left, *x))
+        .fold(None, |found, x| Some(tie_break.earlier(found, x)))
 }
 
 // The full order, made from the front: of the candidates that are left, among those of whom no other left one is

@@ -10,11 +10,7 @@ const TWINS: [u8; 39] = [
 fn print_both(rt: &HostRuntime, name: &str, keep: u32, room: usize) -> anyhow::Result<()> {
     let mut struck = vec![in rt.alloc(); 0u8; room]?;
     match best_of_both(&TWINS, keep, &mut struck) {
-        Ok(both) => {
-            let all = both.all;
-            let kept = both.kept;
-            println!(rt; "{name}: best {all:b}, then {kept:b}")?;
-        }
+        Ok(both) => println!(rt; "{name}: best {:b}, then {:b}", both.all, both.kept)?,
         Err(refusal) => println!(rt; "{name}: {refusal}")?,
     }
     Ok(())

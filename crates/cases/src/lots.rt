@@ -48,10 +48,7 @@ fn print_short(
     let changed = table.iter().chain(strengths.iter()).any(|n| *n != 7)
         || sheet.iter().any(|n| *n != 7);
     match answer {
-        Ok(outcome) => {
-            let length = outcome.length;
-            println!(rt; "room: a sheet of {length}, changed {changed}")?;
-        }
+        Ok(outcome) => println!(rt; "room: a sheet of {}, changed {changed}", outcome.length)?,
         Err(refusal) => println!(rt; "room: {refusal}, changed {changed}")?,
     }
     Ok(())

@@ -5,9 +5,9 @@ use certificate::{LONGEST, certify, check};
 use pairwise::CELLS;
 use std::alloc::{AllocError, Global};
 
-// A damage by its name, a place in the circle's certificate, and the byte that is put there. The entries of the circle, 0 over
-// 1 with 6, 1 over 2 with 7, 2 over 0 with 5, start at 19, 28, 38, 48, 57 and 66: two bytes of strength, the count of the path,
-// the path, the cut.
+// A damage by its name, a place in the circle's certificate, and the byte that is put there. The entries of the circle,
+// 0 over 1 with 6, 1 over 2 with 7, 2 over 0 with 5, start at 19, 28, 38, 48, 57 and 66: two bytes of strength, the count
+// of the path, the path, the cut.
 const DAMAGES: [(&str, usize, u8); 34] = [
     ("other v", 0, 4),
     ("first byte of the table", 1, 1),
@@ -58,9 +58,7 @@ fn certificate(heap: Global) -> anyhow::Result<Vec<u8>> {
     let mut table = [0u16; CELLS];
     let mut strengths = [0u16; CELLS];
     let mut sheet = vec![in heap; 0u8; LONGEST]?;
-    let certified = certify(&CIRCLE, &mut table, &mut strengths, &mut sheet).map_err(
-        |refusal| anyhow!("{refusal}"),
-    )?;
+    let certified = certify(&CIRCLE, &mut table, &mut strengths, &mut sheet)?;
     sheet.truncate(certified.length);
     Ok(sheet)
 }

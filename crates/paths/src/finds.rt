@@ -8,17 +8,13 @@ ghost use Rattle.paths.specs.Phases.{Wins, Tried, Cleared};
 use crate::Strengths;
 use ballots::MOST_CANDIDATES;
 use pairwise::{CELLS, Grid, Pairwise};
+use std::array;
 
 // The wins, as strengths of paths with nobody in the middle.
 fn wins(pairwise: &Pairwise) -> [u16; CELLS]
     ensures { Wins pairwise.now result }
 {
-    let mut cells = [0; CELLS];
-    // A plain loop: what `array::from_fn` says of 900 elements is more than the check has memory for.
-    for at in 0..CELLS {
-        cells[at] = pairwise.win(at / MOST_CANDIDATES, at % MOST_CANDIDATES);
-    }
-    cells
+    array::from_fn(|at| pairwise.win(at / MOST_CANDIDATES, at % MOST_CANDIDATES))
 }
 
 // Tries a candidate as the middle of the path from x to y, whose middles so far are all below it.

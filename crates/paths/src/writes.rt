@@ -11,13 +11,7 @@ use ballots::{MOST_CANDIDATES, holds};
 fn last_below(set: u32, limit: usize) -> Option<usize>
     ensures { result ≡ last_below set limit }
 {
-    // A plain loop: of `find` over a range in reverse nothing is known that a proof could use.
-    for candidate in (0..limit).rev() {
-        if holds(set, candidate) {
-            return Some(candidate);
-        }
-    }
-    None
+    (0..limit).filter(|candidate| holds(set, *candidate)).max()
 }
 
 impl Strengths {

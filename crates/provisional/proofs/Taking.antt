@@ -1,5 +1,5 @@
 -- The ballots that a provisional count has taken.
-use Rattle.std.proofs.Common.{◌≡◌, ℕ, ◌+◌, ◌*◌, ◌/◌, ◌%◌, ◌<◌, cond, ◌&&◌, ltb, List, [], ◌∷◌, ◌++◌, map, length, Some, None, Ok, Option, Result, sym, refl, ap, ◌∙◌, subst, arith, length-append}
+use Rattle.std.proofs.Common.{◌≡◌, ℕ, ◌+◌, ◌*◌, ◌/◌, ◌%◌, ◌<◌, cond, ◌&&◌, ltb, List, [], ◌∷◌, ◌++◌, map, length, None, Option, Result, sym, ap, ◌∙◌, subst, arith, length-append}
 use Rattle.std.specs.List.Sorted.{IsPermutation}
 use Rattle.std.proofs.ByRecursion.{All-push, all_shuffled}
 use Rattle.std.proofs.lemmas.List.{map_push}
@@ -8,8 +8,8 @@ use Rattle.std.proofs.lemmas.Bool.Decides.{nat_tests}
 use Rattle.ballots.specs.declared.refusal.Refusal.{Refusal}
 use Rattle.ballots.specs.Format.{unranked, ranks_of, file_of}
 use Rattle.ballots.specs.Laws.{Vote}
-use Rattle.ballots.specs.Lending.{answered}
 use Rattle.ballots.proofs.Files.{votes_accepted}
+use Rattle.ballots.proofs.Lending.{answered_ok}
 use Rattle.pairwise.specs.declared.Pairwise.{Pairwise}
 use Rattle.pairwise.specs.Additions.{most_ballots, add_refusal, OneMore, After, Added}
 use Rattle.pairwise.specs.Tables.{win_in, PairwiseOf}
@@ -41,16 +41,12 @@ taken_more c d v ps p room wide more t =
 not_refused : (t : Pairwise) (p : List ℕ) → add_refusal t p ≡ None → (t.ballots < most_ballots) × (length p ≡ t.counts.candidates)
 not_refused t p h = (grind (arith, nat_tests), grind (arith, nat_tests))
 
-said_ok : (o : Option Refusal) (r : Result (Unit {0}) Refusal) → r ≡ Ok tt → r ≡ answered o tt → o ≡ None
-said_ok None r ok h = refl
-said_ok (Some e) r ok h = absurd (let z : ◌≡◌ {A = ℕ} 0 1 = cc in omega arith)
-
 pub took : (c d : Provisional) (p : List ℕ) (r : Result (Unit {0}) Refusal) → Added c.pairwise p d.pairwise r → Took c p d r
 took c d p r a =
     record {
       added = a;
       taken = λ ok v ps t.
-          let none = said_ok (add_refusal c.pairwise p) r ok a.answer in
+          let (none, _) = answered_ok (add_refusal c.pairwise p) tt tt (sym a.answer ∙ ok) in
           let (room, wide) = not_refused c.pairwise p none in
           taken_more c d v ps p room wide (subst (λ (o : Option Refusal). After o c.pairwise p d.pairwise) none a.after) t;
     }

@@ -45,10 +45,10 @@ fn cut_agrees(strengths: &Strengths, slow: &SlowCount<'_>, x: usize, y: usize) -
 fn orders_agree(strengths: &Strengths, slow: &SlowCount<'_>, tie_break: &TieBreak) -> bool {
     let counted = best::full_order(strengths, tie_break);
     let expected = slow.order(&tie_break.keys);
-    counted.candidates == slow.candidates && counted.places.starts_with(&expected)
+    Some(counted.places.as_slice()) == expected.get(..slow.candidates)
 }
 
-// Whether the strengths, paths and cuts of all pairs and the best agree.
+// Whether the strengths, paths and cuts of all pairs and the best agree. Plain `for`s: each test has an error of its own.
 fn compare_answers(strengths: &Strengths, slow: &SlowCount<'_>) -> Result<(), Disagreement> {
     for x in 0..MOST {
         for y in 0..MOST {

@@ -81,7 +81,7 @@ impl<'a> Reader<'a> {
         Some(Entry { strength, row, cut })
     }
 
-    // Whether the table is that of the slow count.
+    // Whether the table is that of the slow count. Plain `for`s, as in `has_entries`: the reader goes on at each pair.
     fn has_table(&mut self, slow: &SlowCount<'_>) -> bool {
         for x in 0..slow.candidates {
             for y in 0..slow.candidates {
@@ -149,7 +149,8 @@ fn resized(random: &mut Random, sheet: &[u8]) -> Result<Vec<u8>, AllocError> {
     Ok(other)
 }
 
-// The place of the length of some path.
+// The place of the length of some path. Nothing is known here of a certificate's first byte, nor that what is left of a
+// slice is no longer than it: hence `saturating_sub`.
 fn path_place(random: &mut Random, sheet: &[u8]) -> Option<usize>
     ensures { IfSome result (λ place. place ≤ length sheet.now) }
 {
@@ -193,7 +194,8 @@ fn damaged(random: &mut Random, sheet: &[u8]) -> Result<Vec<u8>, AllocError> {
 }
 
 impl Verdicts {
-    // Whether the checker accepts the certificate exactly if it is as said; its verdict is counted.
+    // Whether the checker accepts the certificate exactly if it is as said; its verdict is counted. The counts saturate,
+    // since nothing here bounds how many certificates come.
     fn agrees(&mut self, slow: &SlowCount<'_>, sheet: &[u8]) -> bool {
         let accepted = check(slow.bytes, sheet).is_ok();
         let right = is_as_said(slow, sheet, true);

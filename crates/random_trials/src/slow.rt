@@ -195,13 +195,13 @@ impl<'a> SlowCount<'a> {
     }
 
     // The full order, and 0 behind it.
-    pub fn order(&self, keys: &[u8]) -> [u8; MOST] {
+    pub fn order(&self, keys: &[u8]) -> [usize; MOST] {
         let mut left = self.everybody();
-        let mut order = [0u8; MOST];
+        let mut order = [0; MOST];
         for place in order.iter_mut() {
             let next = (0..MOST).find(|x| left[*x] && self.comes_next(keys, &left, *x));
             if let Some(x) = next {
-                *place = x as u8;
+                *place = x;
                 left[x] = false;
             }
         }

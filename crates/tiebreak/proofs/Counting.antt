@@ -1,11 +1,11 @@
 -- The outcome of the whole count, from what its parts answer.
-use Rattle.std.proofs.Common.{◌≡◌, ℕ, ◌<◌, ◌≤◌, Bool, true, List, [], ◌∷◌, ◌++◌, length, get_or, take, Some, None, Ok, Option, Result, sym, refl, ◌∙◌, arith, length-append}
-use Rattle.std.proofs.lemmas.List.{get_or-take}
+use Rattle.std.proofs.Common.{◌≡◌, ℕ, ◌<◌, ◌≤◌, Bool, true, List, [], ◌∷◌, ◌++◌, length, get_or, take, Some, None, Option, Result, sym, refl, ◌∙◌, arith, length-append}
 use Rattle.ballots.specs.declared.refusal.Refusal.{Refusal}
 use Rattle.ballots.specs.Format.{unranked, candidates_in, ballots_in, ballots_of}
-use Rattle.ballots.specs.Lending.{or_else, answered}
+use Rattle.ballots.specs.Lending.{or_else}
 use Rattle.ballots.specs.Refusals.{refusal}
 use Rattle.ballots.specs.Sets.{holds}
+use Rattle.ballots.proofs.Lending.{neither}
 use Rattle.pairwise.specs.Counts.{count, win}
 use Rattle.paths.specs.Paths.{below}
 use Rattle.paths.proofs.Walks.{in_below, below_in}
@@ -20,15 +20,6 @@ use Rattle.certificate.specs.Judge.{judge}
 use Rattle.tiebreak.specs.declared.outcome.Outcome.{Outcome}
 use Rattle.tiebreak.specs.Draws.{draw_refusal}
 use Rattle.tiebreak.specs.Outcomes.{count_refusal, OutcomeOf, Leaves, Trusted}
-
--- an answer that is no refusal
-pub said : {A : Type 0} (o : Option Refusal) (a b : A) → Ok b ≡ answered o a → (o ≡ None) × (b ≡ a)
-said None a b h = (refl, cc)
-said (Some e) a b h = let z : ◌≡◌ {A = ℕ} 0 1 = cc in absurd (omega arith)
-
-neither : (first second : Option Refusal) → or_else first second ≡ None → (first ≡ None) × (second ≡ None)
-neither None second h = (refl, h)
-neither (Some e) second h = let z : ◌≡◌ {A = ℕ} 0 1 = cc in absurd (omega arith)
 
 -- somebody is among the best
 somebody : (w : ℕ → ℕ → ℕ) (v s : ℕ) → 1 ≤ v → BestSet w v s → (x : ℕ) × (x < v) × (holds s x ≡ true)
@@ -52,7 +43,7 @@ module _ (bs draw : List ℕ) (o : Outcome) (some : 1 ≤ candidates_in bs) (is 
         within = rw (e, length-append) (omega (arith, is.length_is));
         accepted = accepted;
         somebody = somebody (win unranked (ballots_of bs)) (candidates_in bs) o.best some is.best.best;
-        adopted = rw (get_or-take (candidates_in bs) o.order.places 0 0 some) at (first_place (win unranked (ballots_of bs)) (candidates_in bs) _ (take (candidates_in bs) o.order.places) some row);
+        adopted = first_place (win unranked (ballots_of bs)) (candidates_in bs) _ o.order.places.items some row;
       }
 
 -- where nothing is refused, the slices hold what the certificate's part has written

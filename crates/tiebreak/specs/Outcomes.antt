@@ -45,7 +45,7 @@ pub record Trusted (bytes sheet : List ℕ) (o : Outcome) : Type 0 where
   pub within : o.length ≤ length sheet
   pub accepted : judge bytes (take o.length sheet) ≡ None
   pub somebody : (x : ℕ) × (x < candidates_in bytes) × (holds o.best x ≡ true)
-  pub adopted : Best (win unranked (ballots_of bytes)) (below (candidates_in bytes)) (slice_index o.order.places 0)
+  pub adopted : Best (win unranked (ballots_of bytes)) (below (candidates_in bytes)) (slice_index o.order.places.items 0)
 
 -- the set of the best in what is answered
 abbrev pub best_part : Result Outcome Refusal → Result ℕ Refusal

@@ -1,5 +1,5 @@
 -- The text of an outcome, as the assembly reads it. Assumes nothing.
-use Rattle.std.specs.Prelude.{ℕ, ◌+◌, ◌*◌, Bool, cond, List, [], ◌∷◌, ◌++◌, codes, decimal, slice_index}
+use Rattle.std.specs.Prelude.{ℕ, ◌+◌, ◌*◌, Bool, cond, List, [], ◌∷◌, ◌++◌, length, codes, decimal, slice_index}
 use Rattle.std.specs.List.{range_with_len, flat_map}
 use Rattle.ballots.specs.Sets.{holds}
 use Rattle.best.specs.Compared.{ahead_by}
@@ -19,7 +19,7 @@ listed f n = flat_map (λ x. cond (f x) (numbered (codes " ") x) []) (range_with
 
 -- how many ballots there are, and who is among the best
 abbrev pub best_line : Outcome → List ℕ
-best_line o = numbered (codes "papers ") o.ballots ++ (codes " best" ++ (listed (holds o.best) o.order.candidates ++ newline))
+best_line o = numbered (codes "papers ") o.ballots ++ (codes " best" ++ (listed (holds o.best) (length o.order.places.items) ++ newline))
 
 -- the number for the pair x, y of a table of v candidates, row by row
 abbrev pub number_at : ℕ → List ℕ → ℕ → ℕ → ℕ
@@ -37,9 +37,9 @@ ahead_lines s v = flat_map (λ x. flat_map (ahead_line s x) (range_with_len 0 v)
 
 -- the candidates in their full order
 abbrev pub order_line : Outcome → List ℕ
-order_line o = codes "order" ++ (flat_map (λ i. numbered (codes " ") (slice_index o.order.places i)) (range_with_len 0 o.order.candidates) ++ newline)
+order_line o = codes "order" ++ (flat_map (numbered (codes " ")) o.order.places.items ++ newline)
 
 -- the whole report
 abbrev pub report_of : Outcome → List ℕ → List ℕ
 report_of o strengths =
-    best_line o ++ (ahead_lines (number_at o.order.candidates strengths) o.order.candidates ++ order_line o)
+    let v = length o.order.places.items in best_line o ++ (ahead_lines (number_at v strengths) v ++ order_line o)

@@ -7,7 +7,7 @@ use crate::Outcome;
 use crate::draws::Draw;
 use ballots::Refusal;
 use best::full_order;
-use certificate::certify;
+use certificate::certify_strengths;
 use pairwise::tally;
 use paths::Strengths;
 
@@ -28,9 +28,9 @@ pub fn count(
 {
     let file = ballots::read(bytes)?;
     let draw = Draw::read(file, draw)?;
-    let certified = certify(bytes, table, strengths, sheet)?;
-    let pairwise = tally(bytes)?;
-    let order = full_order(&Strengths::of(&pairwise), &draw.tie_break());
+    let found = Strengths::of(&tally(bytes)?);
+    let certified = certify_strengths(&found, table, strengths, sheet)?;
+    let order = full_order(&found, &draw.tie_break());
     Ok(Outcome {
         ballots: certified.ballots,
         best: certified.best,

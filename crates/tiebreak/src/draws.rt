@@ -21,7 +21,7 @@ pub(crate) struct Draw<'a> {
     bytes: &'a [u8],
 }
 
-// Whether the ballot is among those of these numbers.
+// Whether one of the numbers is that of the ballot.
 fn drawn(numbers: &[[u8; NUMBER_LENGTH]], ballot: u16) -> bool
     ensures { result ≡ list_any (λ number. from_le_bytes w16 number == ballot) numbers.now }
 {

@@ -1,5 +1,5 @@
 // The text of an outcome.
-ghost use Rattle.std.specs.Prelude.{◌≡◌, ◌<◌, IfOk, Some, string_bytes};
+ghost use Rattle.std.specs.Prelude.{◌≡◌, ◌<◌, length, IfOk, Some, string_bytes};
 ghost use Rattle.std.specs.Fmt.{WritesOnOk};
 ghost use Rattle.tiebreak.specs.Reports.{number_at, best_line, ahead_lines, order_line, report_of};
 
@@ -19,10 +19,10 @@ struct Reported<'a> {
 impl Reported<'_> {
     // The strength from x to y; 0 where the slice ends before it.
     fn strength(&self, x: usize, y: usize) -> u16
-        requires { let v = self.now.outcome.now.order.candidates in (x < v) × (y < v) }
-        ensures { result ≡ number_at self.now.outcome.now.order.candidates self.now.strengths.now x y }
+        requires { let v = length self.now.outcome.now.order.places.items in (x < v) × (y < v) }
+        ensures { result ≡ number_at (length self.now.outcome.now.order.places.items) self.now.strengths.now x y }
     {
-        let at = x * self.outcome.order.candidates + y;
+        let at = x * self.outcome.order.places.len() + y;
         self.strengths.get(at).copied().unwrap_or(0)
     }
 
@@ -31,7 +31,7 @@ impl Reported<'_> {
         ensures { WritesOnOk W.write_str_gives f.old result (best_line self.now.outcome.now) f.new }
     {
         write!(f, "papers {} best", self.outcome.ballots)?;
-        for x in 0..self.outcome.order.candidates {
+        for x in 0..self.outcome.order.places.len() {
             if holds(self.outcome.best, x) {
                 write!(f, " {x}")?;
             }
@@ -41,9 +41,9 @@ impl Reported<'_> {
 
     // Writes a line for each pair whose first candidate is ahead of the second.
     fn write_ahead<W: fmt::Write>(&self, f: &mut fmt::Formatter<W>) -> fmt::Result
-        ensures { let v = self.now.outcome.now.order.candidates in WritesOnOk W.write_str_gives f.old result (ahead_lines (number_at v self.now.strengths.now) v) f.new }
+        ensures { let v = length self.now.outcome.now.order.places.items in WritesOnOk W.write_str_gives f.old result (ahead_lines (number_at v self.now.strengths.now) v) f.new }
     {
-        let candidates = self.outcome.order.candidates;
+        let candidates = self.outcome.order.places.len();
         for x in 0..candidates {
             for y in 0..candidates {
                 let there = self.strength(x, y);
@@ -60,10 +60,9 @@ impl Reported<'_> {
     fn write_order<W: fmt::Write>(&self, f: &mut fmt::Formatter<W>) -> fmt::Result
         ensures { WritesOnOk W.write_str_gives f.old result (order_line self.now.outcome.now) f.new }
     {
-        let order = &self.outcome.order;
         write!(f, "order")?;
-        for place in &order.places[..order.candidates] {
-            write!(f, " {place}")?;
+        for candidate in self.outcome.order.places.as_slice() {
+            write!(f, " {candidate}")?;
         }
         writeln!(f)
     }

@@ -5,7 +5,8 @@ use std::alloc::{AllocError, Global};
 #[derive(Clone, Copy)]
 pub struct Group<'a>(pub u8, pub &'a [u8]);
 
-// The file with all ballots of the groups.
+// The file with all ballots of the groups. Nothing bounds how many there are, so that the number saturates, which `sum`
+// does not.
 pub fn file_of(heap: Global, candidates: u8, groups: &[Group<'_>]) -> Result<Vec<u8>, AllocError> {
     let ballots: u16 = groups
         .iter()

@@ -1,5 +1,4 @@
 // Files that are refused and files that are counted.
-use anyhow::anyhow;
 use ballots::MOST_CANDIDATES;
 use pairwise::Pairwise;
 
@@ -54,9 +53,7 @@ pub fn counted(rt: &HostRuntime) -> anyhow::Result<()> {
 pub fn greatest(rt: &HostRuntime) -> anyhow::Result<()> {
     let mut bytes = vec![in rt.alloc(); MOST_CANDIDATES as u8, 255, 255]?;
     for _ in 0..u16::MAX {
-        for rank in 1..=MOST_CANDIDATES as u8 {
-            bytes.push(rank)?;
-        }
+        bytes.extend(1..=MOST_CANDIDATES as u8)?;
     }
     match pairwise::tally(&bytes) {
         Ok(pairwise) => {
@@ -72,7 +69,7 @@ pub fn greatest(rt: &HostRuntime) -> anyhow::Result<()> {
 
 // The table copied into slices that are one too short, and one longer than it takes.
 pub fn lent(rt: &HostRuntime) -> anyhow::Result<()> {
-    let pairwise = pairwise::tally(&CIRCLE).map_err(|refusal| anyhow!("{refusal}"))?;
+    let pairwise = pairwise::tally(&CIRCLE)?;
     let mut short = [7u16; 8];
     if let Err(refusal) = pairwise.copy_to(&mut short) {
         println!(rt; "room for 8: {refusal}, {short:?}")?;

@@ -57,16 +57,14 @@ const WORKED: [(&str, u8, &[Group<'static>]); 7] = [
 ];
 
 fn print_set(rt: &HostRuntime, set: u32) -> anyhow::Result<()> {
-    for x in 0..MOST_CANDIDATES {
-        if ballots::holds(set, x) {
-            print!(rt; " {x}")?;
-        }
+    for x in (0..MOST_CANDIDATES).filter(|x| ballots::holds(set, *x)) {
+        print!(rt; " {x}")?;
     }
     Ok(())
 }
 
 fn print_order(rt: &HostRuntime, order: &Order) -> anyhow::Result<()> {
-    for x in order.places.iter().take(order.candidates) {
+    for x in order.places.iter() {
         print!(rt; " {x}")?;
     }
     Ok(())

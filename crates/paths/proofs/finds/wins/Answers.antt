@@ -1,12 +1,14 @@
-use Rattle.std.proofs.Common.{◌∙◌, arith, length-set, get_or-set_other, get_or-set_same, below_more}
+use Rattle.std.proofs.Common.{◌≡◌, ℕ, ◌+◌, ◌*◌, ◌/◌, ◌%◌, arith, rules, tests}
+use Rattle.ballots.specs.Format.{most_candidates}
+use Rattle.ballots.proofs.Made.{made_at}
+use Rattle.pairwise.specs.Grids.{cells}
+use Rattle.pairwise.specs.Tables.{win_in}
 use Rattle.paths.proofs.finds.wins.Goals as goal
 
-pub loop-at-preserved : goal.loop-at-preserved
-loop-at-preserved c =
-    let cs = c.loop-at.cells in
-    let at = c.loop-at.at in (
-      length-set cs at _ ∙ c.loop-at.invariant.0,
-      below_more _ _
-          (λ k h. get_or-set_other cs at k _ 0 (omega arith) ∙ c.loop-at.invariant.1 k h)
-          (get_or-set_same cs at _ 0 (omega arith) ∙ (cc)),
-    )
+pub returns : goal.returns
+returns c = λ x y xl yl.
+    let t = c.args.pairwise.now in
+    let win : ℕ → ℕ = λ at. win_in t (at / most_candidates) (at % most_candidates) in
+    let row : (x * most_candidates + y) / most_candidates ≡ x = omega arith in
+    let column : (x * most_candidates + y) % most_candidates ≡ y = omega arith in
+    rw (row, column) at (made_at c.from_fn.result win cells (x * most_candidates + y) 0 c.from_fn.ensures.items (λ i r q k. search (rules, tests)) (omega arith))

@@ -1,23 +1,44 @@
-use Rattle.std.proofs.Common.{◌≡◌, ℕ, zero, suc, ◌-◌, ◌<◌, true, false, Some, sym, ◌∙◌, arith}
+use Rattle.std.proofs.Common.{◌≡◌, ℕ, zero, suc, ◌+◌, ◌<◌, max, List, [], ◌∷◌, ◌++◌, Some, sym, refl, ap, ◌∙◌, inl, inr, arith, rules, tests}
+use Rattle.std.specs.List.{fold, reduce}
+use Rattle.std.proofs.lemmas.Bool.{cases_Bool}
+use Rattle.std.proofs.lemmas.Iterator.{YieldsList-from_range}
+use Rattle.std.proofs.lemmas.Iterator.Consumers.{YieldsList-from_filter, max_from_yields_List}
+use Rattle.std.proofs.lemmas.List.Sums.{fold_push}
+use Rattle.std.proofs.lemmas.Iterator.Adapters.{option_map_id}
 use Rattle.ballots.specs.Sets.{holds}
+use Rattle.ballots.specs.Strikes.{kept}
+use Rattle.ballots.proofs.Kept.{kept_none, kept_in, kept_out}
 use Rattle.paths.specs.Rows.{last_below}
 use Rattle.paths.proofs.writes.last_below.Goals as goal
 
--- the candidate before n is the last one, or it can be left out
-last_here : (set n : ℕ) → 0 < n → holds set (n - 1) ≡ true → last_below set n ≡ Some (n - 1)
-last_here set zero l h = absurd (let f : ⊥ = omega arith in f)
-last_here set (suc n) l h = let e : suc n - 1 ≡ n = omega arith in rw (e, rw e at h)
+-- who is found below n is below n
+below_limit : (set n x : ℕ) → last_below set n ≡ Some x → x < n
+below_limit set zero x e = absurd (cc)
+below_limit set (suc n) x e = elim (cases_Bool (holds set n)) [
+  | inl h ↦ let k : Some n ≡ Some x = rw h at e in let i : n ≡ x = cc in omega arith
+  | inr h ↦ let k = below_limit set n x (rw h at e) in omega arith
+]
 
-last_earlier : (set n : ℕ) → 0 < n → holds set (n - 1) ≡ false → last_below set (n - 1) ≡ last_below set n
-last_earlier set zero l h = absurd (let f : ⊥ = omega arith in f)
-last_earlier set (suc n) l h = let e : suc n - 1 ≡ n = omega arith in rw (e, rw e at h)
+-- the greatest of those before n and n itself is n
+greatest_last : (set n : ℕ) (xs : List ℕ) → reduce max xs ≡ last_below set n → reduce max (xs ++ n ∷ []) ≡ Some n
+greatest_last set n [] e = refl
+greatest_last set n (x ∷ xs) e =
+    let k = below_limit set n (fold max x xs) (sym e) in
+    ap (λ y. Some y) (fold_push max x xs n ∙ omega arith)
 
-pub returns-then-holds : goal.returns-then-holds
-returns-then-holds c =
-    sym (last_here c.args.set c.loop-candidate.candidate c.loop-candidate-test.true (sym c.if-holds.ensures))
-    ∙ c.loop-candidate.invariant
+greatest : (set n : ℕ) → reduce max (kept (holds set) n) ≡ last_below set n
+greatest set zero = rw (kept_none (holds set)) refl
+greatest set (suc n) =
+    let e : suc n ≡ n + 1 = omega arith in
+    elim (cases_Bool (holds set n)) [
+      | inl h ↦ rw (h, e, kept_in (holds set) n h) (greatest_last set n (kept (holds set) n) (greatest set n))
+      | inr h ↦ rw (h, e, kept_out (holds set) n h) (greatest set n)
+    ]
 
-pub loop-candidate-preserved : goal.loop-candidate-preserved
-loop-candidate-preserved c =
-    last_earlier c.args.set c.loop-candidate.candidate c.loop-candidate-test.true (sym c.if-holds.ensures)
-    ∙ c.loop-candidate.invariant
+pub returns : goal.returns
+unfolding kept
+returns c =
+    sym (option_map_id c.max.result)
+    ∙ (max_from_yields_List c.filter.result c.max.result c.max.ensures.ran
+    (YieldsList-from_filter _ (holds c.args.set) (YieldsList-from_range 0 c.args.limit c.args.limit (cc) (omega arith)) c.filter.ensures.closure (λ x r q k. search (rules, tests)))
+    ∙ greatest c.args.set c.args.limit)

@@ -5,7 +5,7 @@ use Rattle.ballots.specs.Format.{most_candidates, unranked, candidates_in}
 use Rattle.ballots.specs.Sets.{number}
 use Rattle.tiebreak.specs.Draws.{drawn_ballots, decided}
 use Rattle.tiebreak.proofs.Deciding.{decided_is_a_tie_break, keys_order}
-use Rattle.tiebreak.proofs.Made.{made_at}
+use Rattle.ballots.proofs.Made.{made_at}
 use Rattle.tiebreak.proofs.draws.Draw.tie_break.Goals as goal
 
 pub returns : goal.returns
