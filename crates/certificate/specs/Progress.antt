@@ -51,8 +51,8 @@ abbrev pub claimed : ℕ → List ℕ → ℕ → ℕ → ℕ
 claimed v sheet x y = cond (x == y) 0 ((claims_in v sheet).strength x y)
 
 -- the reader stands where the entry of the pair x, y starts
-abbrev pub At : Pairwise → ℕ → ℕ → Reader → Type 0
-At t x y reader = reader.at ≡ place t.counts.candidates reader.sheet.now x y
+abbrev pub AtEntry : Pairwise → ℕ → ℕ → Reader → Type 0
+AtEntry t x y reader = reader.at ≡ place t.counts.candidates reader.sheet.now x y
 
 -- from there the demands are met, the strength s is answered, and the reader stands behind the entry; or the refusal of the first that is not
 pub record ReadsPair (demands : List Demand) (s : ℕ) (t : Pairwise) (x y : ℕ) (old new : Reader) (r : Result ℕ Refusal) : Type 0 where
