@@ -108,25 +108,25 @@ module _ (bytes : List ℕ) (t : Pairwise) (h : PairwiseOf bytes t) where
   agree : (x y : ℕ) → x < t.counts.candidates → y < t.counts.candidates → entry t.counts x y ≡ count unranked (ballots_of bytes) x y
   agree x y lx ly = let e = h.candidates in entry_count bytes t h x y (omega arith) (omega arith)
 
-  rows_counted : rows t.counts.candidates (entry t.counts) ≡ rows (candidates_in bytes) (count unranked (ballots_of bytes))
-  rows_counted =
-      rows_same t.counts.candidates (entry t.counts) (count unranked (ballots_of bytes)) agree
-      ∙ ap (λ k. rows k (count unranked (ballots_of bytes))) h.candidates
+  abbrev counts : ℕ → ℕ → ℕ
+  counts = count unranked (ballots_of bytes)
 
-  strengths_counted : strengths_by t.counts.candidates (entry t.counts) ≡ strengths_by (candidates_in bytes) (count unranked (ballots_of bytes))
-  strengths_counted =
-      strengths_agreed t.counts.candidates (entry t.counts) (count unranked (ballots_of bytes)) agree
-      ∙ ap (λ k. strengths_by k (count unranked (ballots_of bytes))) h.candidates
+  -- what agrees for the candidates of the table agrees for those of the ballots
+  counted : {A : Type 0} (f : ℕ → (ℕ → ℕ → ℕ) → A) → f t.counts.candidates (entry t.counts) ≡ f t.counts.candidates counts →
+      f t.counts.candidates (entry t.counts) ≡ f (candidates_in bytes) counts
+  counted f e = e ∙ ap (λ k. f k counts) h.candidates
+
+  rows_counted : rows t.counts.candidates (entry t.counts) ≡ rows (candidates_in bytes) counts
+  rows_counted = counted rows (rows_same t.counts.candidates (entry t.counts) counts agree)
+
+  strengths_counted : strengths_by t.counts.candidates (entry t.counts) ≡ strengths_by (candidates_in bytes) counts
+  strengths_counted = counted strengths_by (strengths_agreed t.counts.candidates (entry t.counts) counts agree)
 
   best_counted : best_by (strength_in t) t.counts.candidates ≡ (certified bytes).best
-  best_counted =
-      best_same_by t.counts.candidates (entry t.counts) (count unranked (ballots_of bytes)) agree
-      ∙ ap (λ k. best_by (strength (win_by (count unranked (ballots_of bytes))) k) k) h.candidates
+  best_counted = counted (λ v n. best_by (strength (win_by n) v) v) (best_same_by t.counts.candidates (entry t.counts) counts agree)
 
-  certificate_counted : certificate_by t.counts.candidates (entry t.counts) ≡ certificate_by (candidates_in bytes) (count unranked (ballots_of bytes))
-  certificate_counted =
-      certificate_agreed t.counts.candidates (entry t.counts) (count unranked (ballots_of bytes)) agree
-      ∙ ap (λ k. certificate_by k (count unranked (ballots_of bytes))) h.candidates
+  certificate_counted : certificate_by t.counts.candidates (entry t.counts) ≡ certificate_by (candidates_in bytes) counts
+  certificate_counted = counted certificate_by (certificate_agreed t.counts.candidates (entry t.counts) counts agree)
 
   certified_counted : certified_by t.ballots t.counts.candidates (entry t.counts) ≡ certified bytes
   certified_counted = rw (h.ballots, best_counted, certificate_counted) refl
@@ -147,7 +147,7 @@ module _ (bytes : List ℕ) (t : Pairwise) (h : PairwiseOf bytes t) where
   unfolding win
   best_counts best b =
       let e = one_best_set (win_in t) t.counts.candidates best _ b (best_meaning (win_in t) t.counts.candidates) in
-      rw (e ∙ best_counted) (best_meaning (win_by (count unranked (ballots_of bytes))) (candidates_in bytes))
+      rw (e ∙ best_counted) (best_meaning (win_by counts) (candidates_in bytes))
 
   pub best_said : (r : Result Certified Refusal) → IfOk r (λ c. BestSet (win_in t) t.counts.candidates c.best) →
       IfOk r (λ c. BestSet (win unranked (ballots_of bytes)) (candidates_in bytes) c.best)
@@ -158,7 +158,7 @@ module _ (bytes : List ℕ) (t : Pairwise) (h : PairwiseOf bytes t) where
   pub accepted_said : ((i : ℕ) → get_or bytes i 0 < 256) → (numbers numbers' strengths strengths' sheet sheet' : List ℕ) (r : Result Certified Refusal) →
       Certifies bytes numbers numbers' strengths strengths' sheet sheet' r → IfOk r (λ c. judge bytes (take c.length sheet') ≡ None)
   accepted_said small numbers numbers' strengths strengths' sheet sheet' (Ok c) k =
-      let certificate : List ℕ = certificate_by (candidates_in bytes) (count unranked (ballots_of bytes)) in
+      let certificate : List ℕ = certificate_by (candidates_in bytes) counts in
       let (none, is) = answered_ok (certify_refusal bytes (length numbers) (length strengths) (length sheet)) (certified bytes) c (sym k.answer) in
       let long : c.length ≡ length certificate = ap (λ d. d.length) (sym is) in
       let front : sheet' ≡ certificate ++ drop (length certificate) sheet = k.sheet_after ∙ rw none refl in

@@ -12,7 +12,7 @@ use Rattle.certificate.specs.Layout.{two_bytes, all_pairs, table_bytes}
 use Rattle.certificate.specs.Reading.{table_end}
 use Rattle.certificate.specs.Judge.{Demand, unmet, stands, claim_demands, best_demands, demands}
 use Rattle.certificate.specs.Parts.{front_bytes}
-use Rattle.certificate.specs.Progress.{demands_in, At, Moved, Passes}
+use Rattle.certificate.specs.Progress.{demands_in, AtEntry, Moved, Passes}
 use Rattle.certificate.proofs.Places.{place_first}
 use Rattle.certificate.proofs.Moves.{answered_by, unmet_on, moved_on, moved_stop}
 
@@ -47,7 +47,7 @@ module _ (t : Pairwise) (sheet : List ℕ) (s₀ s₁ : Reader) (front : s₀.at
       answered_by _ _ ((moved_stop {A = Unit {0}} {B = Unit {0}} (entries ++ best) 0 m).refusal ∙ ap unmet (sym by_parts))
 
   module _ (passed : Passes (front_bytes t) s₀ s₁ (Ok tt)) where
-    pub entries_at : At t 0 0 s₁
+    pub entries_at : AtEntry t 0 0 s₁
     entries_at = passed.stop ∙ omega (arith, front, table_length t.counts.candidates (entry t.counts), place_first t.counts.candidates s₁.sheet.now)
 
     -- the entries, and what follows them

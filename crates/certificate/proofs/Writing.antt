@@ -11,7 +11,7 @@ use Rattle.paths.specs.Found.{put, path_bytes, PathWritten, Wrote}
 use Rattle.paths.proofs.Written.{wrote_both}
 use Rattle.certificate.specs.declared.writes.Writer.{Writer}
 use Rattle.certificate.specs.Layout.{two_bytes, four_bytes, Claims, entry_bytes, claim_bytes, all_pairs}
-use Rattle.certificate.specs.Progress.{Put}
+use Rattle.certificate.specs.Progress.{HasRoom, Put}
 use Rattle.certificate.proofs.Pairs.{before, behind, before_next, before_row, all_before}
 
 -- nothing, a part copied, and parts one behind the other
@@ -28,7 +28,7 @@ wrote_part bytes part at k old p e = record { stop = refl; after = rw (p, e, dro
 pub put_as : {bytes bs : List ℕ} {a b : Writer} → bytes ≡ bs → Put bytes a b → Put bs a b
 put_as {a = a} {b = b} e w = subst (λ l. Put l a b) e w
 
-pub put_both : {bytes ps qs : List ℕ} {a b c : Writer} → bytes ≡ ps ++ qs → a.at + length bytes ≤ length a.sheet.now →
+pub put_both : {bytes ps qs : List ℕ} {a b c : Writer} → bytes ≡ ps ++ qs → HasRoom bytes a →
     Put ps a b → Put qs b c → Put bytes a c
 put_both e room p q = record { wrote = wrote_both e room p.wrote q.wrote; size = q.size ∙ p.size; same = q.same ∙ p.same }
 
@@ -46,12 +46,12 @@ module _ (front : List ℕ) (v : ℕ) (f : ℕ → ℕ → List ℕ) (x y : ℕ)
   pair_room at n lx ly room =
       omega (arith, length-append front (all_pairs v f), length-append front (before v f x (y + 1)), ap length (all_before v f x y lx ly), length-append (before v f x (y + 1)) (behind v f x y))
 
-  pub pair_fits : {a b : Writer} → x < v → y < v → a.at + length (front ++ all_pairs v f) ≤ length a.sheet.now →
-      Put (front ++ before v f x y) a b → b.at + length (f x y) ≤ length b.sheet.now
+  pub pair_fits : {a b : Writer} → x < v → y < v → HasRoom (front ++ all_pairs v f) a →
+      Put (front ++ before v f x y) a b → HasRoom (f x y) b
   pair_fits {a} lx ly room p =
       omega (arith, p.wrote.stop, p.size, pair_room a.at (length a.sheet.now) lx ly room, ap length next, length-append (front ++ before v f x y) (f x y))
 
-  pub pair_put : {a b c : Writer} → x < v → y < v → a.at + length (front ++ all_pairs v f) ≤ length a.sheet.now →
+  pub pair_put : {a b c : Writer} → x < v → y < v → HasRoom (front ++ all_pairs v f) a →
       Put (front ++ before v f x y) a b → Put (f x y) b c → Put (front ++ before v f x (y + 1)) a c
   pair_put {a} lx ly room p q = put_both next (pair_room a.at (length a.sheet.now) lx ly room) p q
 

@@ -1,5 +1,5 @@
 -- How far a certificate is read, with the strengths that are kept of it, and how far one is written. Assumes nothing.
-use Rattle.std.specs.Prelude.{◌≡◌, ℕ, ◌+◌, ◌<◌, ◌≢◌, ◌⊎◌, List, [], ◌∷◌, length, Some, None, Ok, Err, Option, Result, IfOk, OnOk, cond, ◌==◌, nat_le}
+use Rattle.std.specs.Prelude.{◌≡◌, ℕ, ◌+◌, ◌<◌, ◌≤◌, ◌≢◌, ◌⊎◌, List, [], ◌∷◌, length, Some, None, Ok, Err, Option, Result, IfOk, OnOk, cond, ◌==◌, nat_le}
 use Rattle.ballots.specs.declared.refusal.Refusal.{Refusal}
 use Rattle.ballots.specs.declared.refusal.Refusal.TheVariants as refuse
 use Rattle.ballots.specs.Lending.{answered}
@@ -51,8 +51,8 @@ abbrev pub claimed : ℕ → List ℕ → ℕ → ℕ → ℕ
 claimed v sheet x y = cond (x == y) 0 ((claims_in v sheet).strength x y)
 
 -- the reader stands where the entry of the pair x, y starts
-abbrev pub At : Pairwise → ℕ → ℕ → Reader → Type 0
-At t x y reader = reader.at ≡ place t.counts.candidates reader.sheet.now x y
+abbrev pub AtEntry : Pairwise → ℕ → ℕ → Reader → Type 0
+AtEntry t x y reader = reader.at ≡ place t.counts.candidates reader.sheet.now x y
 
 -- from there the demands are met, the strength s is answered, and the reader stands behind the entry; or the refusal of the first that is not
 pub record ReadsPair (demands : List Demand) (s : ℕ) (t : Pairwise) (x y : ℕ) (old new : Reader) (r : Result ℕ Refusal) : Type 0 where
@@ -86,6 +86,10 @@ pub record ReadsEntries (t : Pairwise) (old new : Reader) (r : Result Grid Refus
   pub moved : Moved (all_pairs t.counts.candidates (claim_demands (win_in t) t.counts.candidates old.sheet.now))
       (best_place t.counts.candidates old.sheet.now) old new r
   pub kept : IfOk r (KeptAll t.counts.candidates old.sheet.now)
+
+-- there is room for the bytes behind those that are written
+abbrev pub HasRoom : List ℕ → Writer → Type 0
+HasRoom bytes writer = writer.at + length bytes ≤ length writer.sheet.now
 
 -- the bytes are written behind those that were, all else is as it was, and the writer holds the same slice
 pub record Put (bytes : List ℕ) (old new : Writer) : Type 0 where

@@ -1,6 +1,6 @@
 // The entries of a certificate: one for each pair of different candidates.
 ghost use Rattle.std.specs.Prelude.{◌<◌, ◌≢◌};
-ghost use Rattle.certificate.specs.Progress.{At, ReadsEntry, ReadsClaim, ReadsEntries};
+ghost use Rattle.certificate.specs.Progress.{AtEntry, ReadsEntry, ReadsClaim, ReadsEntries};
 
 use crate::claims::{is_cut, is_path};
 use crate::reads::Reader;
@@ -11,7 +11,7 @@ use pairwise::{CELLS, Grid, Pairwise};
 #[tactic(auto, using(std::proofs::lemmas::Bool::Decides::nat_tests, crate::proofs::Places::place_next), unfolding(crate::specs::Judge::entry_demands))]
 fn check_entry(table: &Pairwise, reader: &mut Reader, x: usize, y: usize) -> Result<u16, Refusal>
     requires pair { (x < table.now.counts.candidates) × ((y < table.now.counts.candidates) × (x ≢ y)) }
-    requires here { At table.now x y reader.old }
+    requires here { AtEntry table.now x y reader.old }
     ensures { ReadsEntry table.now x y reader.old reader.new result }
 {
     let strength = reader.number()?;
@@ -36,7 +36,7 @@ fn check_entry(table: &Pairwise, reader: &mut Reader, x: usize, y: usize) -> Res
 // The same for any pair: a candidate has no entry with itself, and the strength 0.
 fn check_claim(table: &Pairwise, reader: &mut Reader, x: usize, y: usize) -> Result<u16, Refusal>
     requires pair { (x < table.now.counts.candidates) × (y < table.now.counts.candidates) }
-    requires here { At table.now x y reader.old }
+    requires here { AtEntry table.now x y reader.old }
     ensures { ReadsClaim table.now x y reader.old reader.new result }
 {
     if x == y {
@@ -47,7 +47,7 @@ fn check_claim(table: &Pairwise, reader: &mut Reader, x: usize, y: usize) -> Res
 
 // Reads the entries of all pairs, and answers the strengths in them.
 pub(crate) fn check_entries(table: &Pairwise, reader: &mut Reader) -> Result<Grid, Refusal>
-    requires { At table.now 0 0 reader.old }
+    requires { AtEntry table.now 0 0 reader.old }
     ensures { ReadsEntries table.now reader.old reader.new result }
 {
     let candidates = table.counts.candidates;

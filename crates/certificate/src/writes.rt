@@ -1,10 +1,10 @@
 // Writing a certificate, part by part.
-ghost use Rattle.std.specs.Prelude.{◌+◌, ◌≤◌, length};
+ghost use Rattle.std.specs.Prelude.{◌≤◌, length};
 ghost use Rattle.paths.specs.Found.{Wrote};
 ghost use Rattle.certificate.specs.Layout.{claim_bytes};
 ghost use Rattle.certificate.specs.Certified.{longest};
 ghost use Rattle.certificate.specs.Parts.{front_bytes, found_in, entries_bytes, certificate_in};
-ghost use Rattle.certificate.specs.Progress.{Put};
+ghost use Rattle.certificate.specs.Progress.{HasRoom, Put};
 
 use ballots::MOST_CANDIDATES;
 use pairwise::Pairwise;
@@ -20,7 +20,7 @@ struct Writer<'a> {
 impl Writer<'_> {
     // Writes bytes behind those that are written.
     fn put(&mut self, bytes: &[u8])
-        requires { self.old.at + length bytes.now ≤ length self.old.sheet.now }
+        requires { HasRoom bytes.now self.old }
         ensures { Put bytes.now self.old self.new }
     {
         let end = self.at + bytes.len();
@@ -31,7 +31,7 @@ impl Writer<'_> {
 
 // Writes the number of candidates and the table.
 fn write_table(table: &Pairwise, writer: &mut Writer)
-    requires { writer.old.at + length (front_bytes table.now) ≤ length writer.old.sheet.now }
+    requires { HasRoom (front_bytes table.now) writer.old }
     ensures { Put (front_bytes table.now) writer.old writer.new }
 {
     writer.put(&[table.counts.candidates as u8]);
@@ -45,7 +45,7 @@ fn write_table(table: &Pairwise, writer: &mut Writer)
 // Writes the entry of the pair x, y; a candidate has none with itself.
 #[tactic(auto, using(crate::proofs::Writing::claim_length, crate::proofs::Writing::path_count))]
 fn write_claim(strengths: &Strengths, writer: &mut Writer, x: usize, y: usize)
-    requires { writer.old.at + length (claim_bytes (found_in strengths.now.pairwise) x y) ≤ length writer.old.sheet.now }
+    requires { HasRoom (claim_bytes (found_in strengths.now.pairwise) x y) writer.old }
     ensures { Put (claim_bytes (found_in strengths.now.pairwise) x y) writer.old writer.new }
 {
     if x == y {
@@ -61,7 +61,7 @@ fn write_claim(strengths: &Strengths, writer: &mut Writer, x: usize, y: usize)
 
 // Writes the entries of all pairs.
 fn write_entries(strengths: &Strengths, writer: &mut Writer)
-    requires { writer.old.at + length (entries_bytes strengths.now.pairwise) ≤ length writer.old.sheet.now }
+    requires { HasRoom (entries_bytes strengths.now.pairwise) writer.old }
     ensures { Put (entries_bytes strengths.now.pairwise) writer.old writer.new }
 {
     let candidates = strengths.pairwise.counts.candidates;
