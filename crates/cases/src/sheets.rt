@@ -1,6 +1,6 @@
 // Certificates, damaged in every way that a refusal names.
 use crate::CIRCLE;
-use anyhow::anyhow;
+use anyhow::ensure;
 use certificate::{LONGEST, certify, check};
 use pairwise::CELLS;
 use std::alloc::{AllocError, Global};
@@ -95,9 +95,10 @@ fn joined(heap: Global, parts: &[&[u8]]) -> Result<Vec<u8>, AllocError> {
 
 // With bytes put in: one too many, a path that passes candidates twice, and strengths of 0 with empty paths.
 fn print_others(rt: &HostRuntime, sheet: &[u8]) -> anyhow::Result<()> {
-    if sheet.len() != 80 {
-        return Err(anyhow!("the circle's certificate has another length"));
-    }
+    ensure!(
+        sheet.len() == 80,
+        "the circle's certificate has another length"
+    );
     let heap = rt.alloc();
     let long = joined(heap, &[sheet, &[0]])?;
     print_verdict(rt, "a byte too many", &long)?;
