@@ -28,8 +28,5 @@ module _ (t : Pairwise) (v : ℕ) (cs : List ℕ) (same : v ≡ t.counts.candida
   entry_strength x y =
       record { is = entry_is x y; strongest = λ e. rw (entry_is x y) (strength_strongest (win_in t) t.counts.candidates x y e) }
 
-  pub entries_are : within v (cell cs) ≡ strength_in t
-  entries_are = λ i x y. entry_is x y i
-
   pub table_is : rows v (cell cs) ≡ strength_table t
   table_is = rows_same v (cell cs) (strength_in t) cell_is ∙ ap (λ (n : ℕ). rows n (strength_in t)) same
