@@ -23,7 +23,8 @@ use Rattle.certificate.specs.declared.Certified.{Certified}
 use Rattle.certificate.specs.Judge.{judge}
 use Rattle.certificate.specs.Certified.{certificate_by, strengths_by, longest, room_refusal, certify_refusal, certified_by, certified, CertifiesTable, Certifies}
 use Rattle.certificate.specs.Parts.{certificate_in}
-use Rattle.certificate.proofs.Moves.{answered_ok, answered_err}
+use Rattle.certificate.proofs.Moves.{answered_err}
+use Rattle.ballots.proofs.Lending.{answered_ok}
 use Rattle.certificate.proofs.Certificates.{certificate_accepted, strengths_agreed, best_same_by, certificate_agreed}
 use Rattle.certificate.proofs.Truths.{one_best_set}
 

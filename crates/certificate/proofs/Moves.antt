@@ -11,10 +11,6 @@ use Rattle.certificate.proofs.Pairs.{before, behind, before_next, before_row, al
 use Rattle.certificate.proofs.Accepted.{Met, met_first}
 
 -- what an answer says of the refusal
-pub answered_ok : {A : Type 0} (o : Option Refusal) (a b : A) → answered o a ≡ Ok b → (o ≡ None) × (a ≡ b)
-answered_ok None a b h = (refl, cc)
-answered_ok (Some e) a b h = let z : ◌≡◌ {A = ℕ} 0 1 = cc in absurd (omega arith)
-
 pub answered_err : {A : Type 0} (o : Option Refusal) (a : A) (e : Refusal) → answered o a ≡ Err e → o ≡ Some e
 answered_err None a e h = let z : ◌≡◌ {A = ℕ} 0 1 = cc in absurd (omega arith)
 answered_err (Some f) a e h = cc

@@ -18,7 +18,7 @@ impl<'a> Reader<'a> {
     ghost use Rattle.certificate.specs.Reading.{two_at, four_at};
     ghost use Rattle.certificate.specs.Progress.{Reaches, Reads, Ends};
 
-    pub fn new(sheet: &'a [u8]) -> Reader<'a>
+    pub(crate) fn new(sheet: &'a [u8]) -> Reader<'a>
         ensures front { result.at ≡ 0 }
         ensures whole { result.sheet.now ≡ sheet.now }
     {
@@ -35,7 +35,7 @@ impl<'a> Reader<'a> {
     }
 
     // The next bytes, as many as are asked for.
-    pub fn take(&mut self, count: usize) -> Result<&'a [u8], Refusal>
+    pub(crate) fn take(&mut self, count: usize) -> Result<&'a [u8], Refusal>
         ensures moved { Reaches count self.old self.new result }
         ensures bytes { IfOk result (λ b. b.now ≡ take count (drop self.old.at self.old.sheet.now)) }
     {
@@ -55,7 +55,7 @@ impl<'a> Reader<'a> {
         Ok(*array)
     }
 
-    pub fn byte(&mut self) -> Result<u8, Refusal>
+    pub(crate) fn byte(&mut self) -> Result<u8, Refusal>
         ensures { Reads 1 slice_index self.old self.new result }
     {
         let [byte] = self.array::<1>()?;
@@ -63,21 +63,21 @@ impl<'a> Reader<'a> {
     }
 
     // The number in the next two bytes, low byte first.
-    pub fn number(&mut self) -> Result<u16, Refusal>
+    pub(crate) fn number(&mut self) -> Result<u16, Refusal>
         ensures { Reads 2 two_at self.old self.new result }
     {
         Ok(u16::from_le_bytes(self.array()?))
     }
 
     // The set in the next four bytes, low byte first.
-    pub fn set(&mut self) -> Result<u32, Refusal>
+    pub(crate) fn set(&mut self) -> Result<u32, Refusal>
         ensures { Reads 4 four_at self.old self.new result }
     {
         Ok(u32::from_le_bytes(self.array()?))
     }
 
     // Refuses bytes behind those that are read.
-    pub fn finish(&self) -> Result<(), Refusal>
+    pub(crate) fn finish(&self) -> Result<(), Refusal>
         ensures { Ends self.now result }
     {
         if self.at < self.sheet.len() {

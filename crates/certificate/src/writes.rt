@@ -10,7 +10,8 @@ use ballots::MOST_CANDIDATES;
 use pairwise::Pairwise;
 use paths::Strengths;
 
-// A slice that a certificate is written to from the front on, and how far it is written.
+// A slice that a certificate is written to from the front on, and how far it is written: no ghost field says that this is
+// within it, since none is kept beside a `&mut`.
 #[derive(Drop)]
 struct Writer<'a> {
     sheet: &'a mut [u8],

@@ -1,8 +1,7 @@
 -- The outcome of the whole count, from what its parts answer.
-use Rattle.std.proofs.Common.{◌≡◌, ℕ, ◌<◌, ◌≤◌, Bool, true, List, [], ◌∷◌, ◌++◌, length, get_or, take, Some, None, Option, Result, sym, refl, ◌∙◌, arith, length-append}
+use Rattle.std.proofs.Common.{◌≡◌, ℕ, ◌<◌, ◌≤◌, Bool, true, List, [], ◌∷◌, ◌++◌, length, get_or, take, None, Result, sym, ◌∙◌, arith, length-append}
 use Rattle.ballots.specs.declared.refusal.Refusal.{Refusal}
 use Rattle.ballots.specs.Format.{unranked, candidates_in, ballots_in, ballots_of}
-use Rattle.ballots.specs.Lending.{or_else}
 use Rattle.ballots.specs.Refusals.{refusal}
 use Rattle.ballots.specs.Sets.{holds}
 use Rattle.ballots.proofs.Lending.{neither}

@@ -1,6 +1,6 @@
 use Rattle.std.proofs.Common.{sym, ap, ◌∙◌}
 use Rattle.ballots.specs.Lending.{answered}
-use Rattle.certificate.proofs.Moves.{answered_ok}
+use Rattle.ballots.proofs.Lending.{answered_ok}
 use Rattle.certificate.proofs.Exact.{judged, accepted_true, accepted_said, said_judged}
 use Rattle.certificate.proofs.checks.check.Goals as goal
 

@@ -10,7 +10,7 @@ use Rattle.best.proofs.Striking.{answers_independent}
 use Rattle.best.proofs.Tabled.{order_tabled}
 use Rattle.certificate.specs.Certified.{certify_refusal, certified, certificate_by}
 use Rattle.certificate.proofs.Certifying.{certifies, best_said, accepted_said}
-use Rattle.certificate.proofs.Moves.{answered_ok}
+use Rattle.ballots.proofs.Lending.{answered_ok}
 use Rattle.tiebreak.specs.declared.outcome.Outcome.{Outcome}
 use Rattle.tiebreak.specs.Draws.{drawn_ballots, decided, TieBreakOf}
 use Rattle.tiebreak.specs.Outcomes.{OutcomeOf}
