@@ -1,20 +1,18 @@
 // Candidates struck off every ballot.
-ghost use Rattle.std.specs.Prelude.{◌≡◌, ◌<◌, ◌≤◌, length, All};
-ghost use Rattle.ballots.specs.Format.{most_candidates};
+ghost use Rattle.std.specs.Prelude.{◌≡◌, ◌<◌, length, All};
 ghost use Rattle.ballots.specs.Sets.{holds};
 ghost use Rattle.ballots.specs.Strikes.{kept, ranks_at, Strikes};
 
 use crate::file::HEADER_LENGTH;
-use crate::{Lent, MOST_CANDIDATES, Refusal, holds, read};
+use crate::{BallotFile, Lent, MOST_CANDIDATES, Refusal, holds, read};
 use arrayvec::ArrayVec;
 
 // The candidates that stay, in order.
-fn staying(keep: u32, candidates: usize) -> ArrayVec<usize, MOST_CANDIDATES>
-    requires { candidates ≤ most_candidates }
-    ensures { result.items ≡ kept (holds keep) candidates }
+fn staying(file: BallotFile<'_>, keep: u32) -> ArrayVec<usize, MOST_CANDIDATES>
+    ensures { result.items ≡ kept (holds keep) file.entry.candidates }
 {
     let mut staying = ArrayVec::new();
-    for x in 0..candidates {
+    for x in 0..file.candidates {
         if holds(keep, x) {
             staying.push(x);
         }
@@ -39,7 +37,7 @@ pub fn strike(bytes: &[u8], keep: u32, out: &mut [u8]) -> Result<usize, Refusal>
     ensures { Strikes bytes.now keep out.old out.new result }
 {
     let file = read(bytes)?;
-    let staying = staying(keep, file.candidates);
+    let staying = staying(file, keep);
     let stay = staying.len();
     if stay == 0 {
         return Err(Refusal::Candidates);

@@ -24,7 +24,7 @@ pub fn ahead(strengths: &Strengths, x: usize, y: usize) -> bool
     ensures value { result ≡ ahead_by (strength_in strengths.now.pairwise) x y }
     ensures meaning { Decides result (Ahead (win_in strengths.now.pairwise) (below strengths.now.pairwise.counts.candidates) x y) }
 {
-    ahead_by(strengths.table(), x, y)
+    ahead_by(strengths.grid(), x, y)
 }
 
 // Whether none of the candidates that are left is ahead of x.
@@ -47,5 +47,5 @@ pub fn best(strengths: &Strengths) -> u32
     ensures value { result ≡ best_by (strength_in strengths.now.pairwise) strengths.now.pairwise.counts.candidates }
     ensures meaning { BestSet (win_in strengths.now.pairwise) strengths.now.pairwise.counts.candidates result }
 {
-    best_by(strengths.table())
+    best_by(strengths.grid())
 }

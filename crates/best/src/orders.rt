@@ -68,7 +68,7 @@ pub fn full_order(strengths: &Strengths, tie_break: &TieBreak) -> Order
     let mut left = [true; MOST_CANDIDATES];
     let mut places = ArrayVec::new();
     for _place in 0..strengths.pairwise.counts.candidates {
-        if let Some(x) = next(strengths.table(), tie_break, &left) {
+        if let Some(x) = next(strengths.grid(), tie_break, &left) {
             places.push(x);
             left[x] = false;
         }

@@ -3,7 +3,7 @@ use arrayvec::ArrayVec;
 use ballots::MOST_CANDIDATES;
 
 // First to last.
-#[derive(Drop)]
+#[derive(Clone, Drop)]
 pub struct Order {
     pub places: ArrayVec<usize, MOST_CANDIDATES>,
 }

@@ -14,16 +14,11 @@ use Rattle.certificate.specs.Layout.{two_bytes, four_bytes, Claims, entry_bytes,
 use Rattle.certificate.specs.Progress.{HasRoom, Put}
 use Rattle.certificate.proofs.Pairs.{before, behind, before_next, before_row, all_before}
 
--- nothing, a part copied, and parts one behind the other
+-- nothing, and parts one behind the other
 pub put_none : (a : Writer) → Put [] a a
 unfolding put
 put_none a =
     record { wrote = record { stop = omega arith; after = rw add-zero (sym (take-append-drop a.at a.sheet.now)) }; size = refl; same = refl }
-
-pub wrote_part : (bytes part : List ℕ) (at k : ℕ) (old : List ℕ) → part ≡ bytes → k ≡ length bytes →
-    Wrote bytes at old (put_mid at k old part) (at + length bytes)
-unfolding put
-wrote_part bytes part at k old p e = record { stop = refl; after = rw (p, e, drop-drop (length bytes) at old) }
 
 pub put_as : {bytes bs : List ℕ} {a b : Writer} → bytes ≡ bs → Put bytes a b → Put bs a b
 put_as {a = a} {b = b} e w = subst (λ l. Put l a b) e w
@@ -57,18 +52,6 @@ module _ (front : List ℕ) (v : ℕ) (f : ℕ → ℕ → List ℕ) (x y : ℕ)
 
   pub row_put : {a b : Writer} → y ≡ v → Put (front ++ before v f x y) a b → Put (front ++ before v f (x + 1) 0) a b
   row_put e p = put_as (ap (λ l. front ++ l) (before_row v f x y e)) p
-
--- the path of a pair is read from the front of what it was written to
-module _ (t : Pairwise) (x y : ℕ) (old new : List ℕ) (r : ℕ) (w : PathWritten t x y 0 old new r) (size : length old ≡ most_candidates) where
-  path_bytes_is : path_bytes t x y 0 (length old) ≡ row (win_in t) t.counts.candidates x y
-  path_bytes_is = rw (le-leb (0 + t.counts.candidates) (length old) (omega (arith, t.counts.few)))
-
-  pub path_count : r ≡ length (row (win_in t) t.counts.candidates x y)
-  path_count = w.count ∙ ap length path_bytes_is
-
-  pub path_front : take r new ≡ row (win_in t) t.counts.candidates x y
-  unfolding put
-  path_front = rw (w.after, path_count, path_bytes_is) (take_at (row (win_in t) t.counts.candidates x y) _ _ refl)
 
 -- an entry in four parts
 pub put_entry :

@@ -1,6 +1,6 @@
 // Certifying a count.
-ghost use Rattle.std.specs.Prelude.{◌≡◌, ◌≤◌, take, IfOk, None};
-ghost use Rattle.ballots.specs.Format.{most_candidates, unranked, candidates_in, ballots_of};
+ghost use Rattle.std.specs.Prelude.{◌≡◌, take, IfOk, None};
+ghost use Rattle.ballots.specs.Format.{unranked, candidates_in, ballots_of};
 ghost use Rattle.ballots.specs.Lending.{answered};
 ghost use Rattle.pairwise.specs.Counts.{win};
 ghost use Rattle.pairwise.specs.Tables.{win_in};
@@ -12,35 +12,29 @@ use crate::Certified;
 use crate::writes::write_certificate;
 use ballots::{Lent, Refusal};
 use best::best;
-use pairwise::tally;
+use pairwise::{Grid, tally};
 use paths::Strengths;
 
 // How many bytes the longest certificate takes: with all candidates on the path of each pair.
-fn longest(candidates: usize) -> usize
-    requires { (1 ≤ candidates) × (candidates ≤ most_candidates) }
-    ensures { result ≡ longest candidates }
+fn longest(counts: &Grid) -> usize
+    ensures { result ≡ longest counts.now.candidates }
 {
+    let candidates = counts.candidates;
     1 + candidates * candidates * 2 + candidates * (candidates - 1) * (7 + candidates) + 4
 }
 
 // Whether the slices of these lengths have room for the table, the strengths and the certificate.
-fn check_room(
-    candidates: usize,
-    table: usize,
-    strengths: usize,
-    sheet: usize,
-) -> Result<(), Refusal>
-    requires { (1 ≤ candidates) × (candidates ≤ most_candidates) }
-    ensures { result ≡ answered (room_refusal candidates table strengths sheet) tt }
+fn check_room(counts: &Grid, table: usize, strengths: usize, sheet: usize) -> Result<(), Refusal>
+    ensures { result ≡ answered (room_refusal counts.now.candidates table strengths sheet) tt }
 {
-    let numbers = candidates * candidates;
+    let numbers = counts.candidates * counts.candidates;
     if table < numbers {
         return Err(Refusal::Short(Lent::Table));
     }
     if strengths < numbers {
         return Err(Refusal::Short(Lent::Strengths));
     }
-    if sheet < longest(candidates) {
+    if sheet < longest(counts) {
         return Err(Refusal::Short(Lent::Sheet));
     }
     Ok(())
@@ -58,7 +52,7 @@ pub fn certify_strengths(
     ensures best { IfOk result (λ c. BestSet (win_in found.now.pairwise) found.now.pairwise.counts.candidates c.best) }
 {
     check_room(
-        found.pairwise.counts.candidates,
+        &found.pairwise.counts,
         table.len(),
         strengths.len(),
         sheet.len(),
@@ -66,10 +60,11 @@ pub fn certify_strengths(
     found.pairwise.copy_to(table)?;
     found.copy_to(strengths)?;
     let best = best(found);
+    let length = write_certificate(found, best, sheet);
     Ok(Certified {
         ballots: found.pairwise.ballots,
         best,
-        length: write_certificate(found, best, sheet),
+        length,
     })
 }
 

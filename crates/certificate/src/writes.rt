@@ -6,7 +6,6 @@ ghost use Rattle.certificate.specs.Certified.{longest};
 ghost use Rattle.certificate.specs.Parts.{front_bytes, found_in, entries_bytes, certificate_in};
 ghost use Rattle.certificate.specs.Progress.{HasRoom, Put};
 
-use ballots::MOST_CANDIDATES;
 use pairwise::Pairwise;
 use paths::Strengths;
 
@@ -44,7 +43,7 @@ fn write_table(table: &Pairwise, writer: &mut Writer)
 }
 
 // Writes the entry of the pair x, y; a candidate has none with itself.
-#[tactic(auto, using(crate::proofs::Writing::claim_length, crate::proofs::Writing::path_count))]
+#[tactic(auto, using(crate::proofs::Writing::claim_length))]
 fn write_claim(strengths: &Strengths, writer: &mut Writer, x: usize, y: usize)
     requires { HasRoom (claim_bytes (found_in strengths.now.pairwise) x y) writer.old }
     ensures { Put (claim_bytes (found_in strengths.now.pairwise) x y) writer.old writer.new }
@@ -52,11 +51,10 @@ fn write_claim(strengths: &Strengths, writer: &mut Writer, x: usize, y: usize)
     if x == y {
         return;
     }
-    let mut path = [0u8; MOST_CANDIDATES];
-    let count = strengths.write_path(x, y, &mut path, 0);
+    let path = strengths.path(x, y);
     writer.put(&strengths.at(x, y).to_le_bytes());
-    writer.put(&[count as u8]);
-    writer.put(&path[..count]);
+    writer.put(&[path.len() as u8]);
+    writer.put(&path);
     writer.put(&strengths.cut(x, y).to_le_bytes());
 }
 

@@ -1,6 +1,7 @@
 -- A path written part by part, by the last middle that bettered the pair.
-use Rattle.std.proofs.Common.{◌≡◌, ℕ, zero, suc, ◌+◌, ◌-◌, ◌<◌, ◌≤◌, Bool, true, false, leb, List, [], ◌∷◌, ◌++◌, length, take, drop, set, Some, None, sym, refl, ap, ◌∙◌, inl, inr, arith, length-append}
-use Rattle.std.proofs.lemmas.List.{append_assoc, take-append-drop, take_at, drop_at, drop-drop, set_split, length-take-le}
+use Rattle.std.proofs.Common.{◌≡◌, ℕ, zero, suc, ◌+◌, ◌<◌, ◌≤◌, Bool, true, false, List, [], ◌∷◌, ◌++◌, length, take, drop, Some, None, sym, refl, ap, ◌∙◌, inl, inr, arith, length-append}
+use borrow.Rule.Slice.PartMut.{put_mid}
+use Rattle.std.proofs.lemmas.List.{append_assoc, take-append-drop, take_at, drop_at, drop-drop, length-take-le}
 use Rattle.std.proofs.lemmas.Bool.{cases_Bool, lt-ltb, le-leb, lt-leb}
 use Rattle.ballots.specs.Sets.{holds, set_of}
 use Rattle.ballots.proofs.Bits.{holds_set_of}
@@ -11,19 +12,20 @@ use Rattle.paths.specs.declared.Strengths.{Strengths}
 use Rattle.paths.specs.Paths.{below}
 use Rattle.paths.specs.Rows.{ShowsStrongest, bettered, path, last_below}
 use Rattle.paths.specs.Strengths.{strength_in, path_in}
-use Rattle.paths.specs.Found.{put, path_bytes, PathWritten, Wrote}
+use Rattle.paths.specs.Found.{put, path_bytes, PathOf, PathWritten, Wrote}
 use Rattle.paths.proofs.Walks.{in_below, below_in}
 use Rattle.paths.proofs.Pairs.{pair_two, strength_is, strength_pair}
 use Rattle.paths.proofs.Rows.{path_shown}
 
--- nothing, one byte, and bytes behind others
+-- nothing, a part copied, and parts one behind the other
 put_none : (old : List ℕ) (at : ℕ) → put old at [] ≡ old
 unfolding put
 put_none old at = let e : at + 0 ≡ at = omega arith in rw e (take-append-drop at old)
 
-put_one : (old : List ℕ) (at b : ℕ) → at < length old → put old at (b ∷ []) ≡ set old at b
+pub wrote_part : (bytes part : List ℕ) (at k : ℕ) (old : List ℕ) → part ≡ bytes → k ≡ length bytes →
+    Wrote bytes at old (put_mid at k old part) (at + length bytes)
 unfolding put
-put_one old at b h = let e : at + 1 ≡ suc at = omega arith in rw e (sym (set_split old at b h))
+wrote_part bytes part at k old p e = record { stop = refl; after = rw (p, e, drop-drop (length bytes) at old) }
 
 put_append :
     (old : List ℕ) (at : ℕ) (ps qs : List ℕ) → at + length ps ≤ length old →
@@ -39,10 +41,6 @@ put_append old at ps qs h =
     sym (drop-drop (length qs) n (front ++ back)) ∙ (ap (λ (l : List ℕ). drop (length qs) l) (drop_at front back n long) ∙ drop-drop (length qs) n old) in
     let count : at + length (ps ++ qs) ≡ n + length qs = omega (arith, length-append ps qs) in
     rw (split, take_at front back n long, rest, count) (simp append_assoc)
-
--- a row of one, and of two parts
-pub wrote_one : (bytes : List ℕ) (b at : ℕ) (old : List ℕ) → bytes ≡ b ∷ [] → at < length old → Wrote bytes at old (set old at b) (at + 1)
-wrote_one bytes b at old e h = record { stop = omega (arith, ap length e); after = rw e (sym (put_one old at b h)) }
 
 pub wrote_both :
     {bytes ps qs : List ℕ} {at n r : ℕ} {old mid new : List ℕ} → bytes ≡ ps ++ qs → at + length bytes ≤ length old →
@@ -113,20 +111,9 @@ module _ (me : Strengths) (limit x y : ℕ) (xv : x < me.pairwise.counts.candida
       Parted (win_in me.pairwise) (below me.pairwise.counts.candidates) x y limit k
   parted k e = parted_below _ _ x y _ _ mask_is limit k l e
 
--- nothing is written, or the whole row
-module _ (t : Pairwise) (x y at : ℕ) (old : List ℕ) where
-  none_written : path_bytes t x y at (length old) ≡ [] → PathWritten t x y at old old 0
-  none_written e =
-      record { count = rw e; after = rw e (sym (put_none old at)); shown = λ h. absurd (let f : ⊥ = omega arith in f) }
-
-  pub none_there : strength_in t x y ≡ 0 → PathWritten t x y at old old 0
-  none_there e = none_written (elim (cases_Bool (leb (at + t.counts.candidates) (length old)))
-      [ inl i ↦ rw (i, e) | inr o ↦ rw o ])
-
-  pub none_fits : length old < at + t.counts.candidates → PathWritten t x y at old old 0
-  none_fits h = none_written (rw (lt-leb (at + t.counts.candidates) (length old) h))
-
-  strongest_row :
+-- the path is the row of its candidates, and is written or there is no room for it
+module _ (t : Pairwise) (x y : ℕ) where
+  pub strongest_row :
       0 < strength_in t x y →
       ShowsStrongest (win_in t) (below t.counts.candidates) t.counts.candidates x y (strength_in t x y)
       (x ∷ path_in t t.counts.candidates x y)
@@ -137,22 +124,17 @@ module _ (t : Pairwise) (x y at : ℕ) (old : List ℕ) where
       let is = strength_is (win_in t) v x y e in
       rw is (path_shown (win_in t) (below v) v x y (below_in v) (in_below v x two.first) (in_below v y two.second) two.apart (rw is at pos))
 
-  pub row_fits :
-      0 < strength_in t x y → at + t.counts.candidates ≤ length old →
-      at + 1 + length (path_in t t.counts.candidates x y) ≤ length old
-  row_fits pos room = omega (arith, (strongest_row pos).short)
+  pub path_found : (path : List ℕ) → 0 < strength_in t x y → path ≡ x ∷ path_in t t.counts.candidates x y → PathOf t x y path
+  path_found path pos e = record { is = e ∙ rw (lt-ltb 0 (strength_in t x y) pos); shown = λ _. rw e (strongest_row pos) }
 
-  pub row_written :
-      (r : ℕ) (new : List ℕ) → 0 < strength_in t x y → at + t.counts.candidates ≤ length old →
-      Wrote (path_in t t.counts.candidates x y) (at + 1) (set old at x) new r →
-      PathWritten t x y at old new (r - at)
-  row_written r new pos room p =
-      let v : ℕ = t.counts.candidates in
-      let ps : List ℕ = path_in t v x y in
-      let e : path_bytes t x y at (length old) ≡ x ∷ ps = rw (le-leb (at + v) (length old) room, lt-ltb 0 (strength_in t x y) pos) in
-      let lt : at < length old = omega (arith, t.counts.some) in
-      record {
-        count = rw e (omega (arith, p.stop));
-        after = rw e (p.after ∙ (ap (λ (l : List ℕ). put l (at + 1) ps) (sym (put_one old at x lt)) ∙ sym (put_append old at (x ∷ []) ps (omega arith))));
-        shown = λ h. rw e (strongest_row pos);
-      }
+  module _ (at : ℕ) (old : List ℕ) where
+    pub not_written : length old < at + t.counts.candidates → PathWritten t x y at old old 0
+    not_written h =
+        let e : path_bytes t x y at (length old) ≡ [] = rw (lt-leb (at + t.counts.candidates) (length old) h) in
+        record { count = rw e; after = rw e (sym (put_none old at)); shown = λ k. absurd (let f : ⊥ = omega arith in f) }
+
+    pub path_written : (path new : List ℕ) (r : ℕ) → PathOf t x y path → at + t.counts.candidates ≤ length old →
+        Wrote path at old new r → PathWritten t x y at old new (length path)
+    path_written path new r p room w =
+        let e : path_bytes t x y at (length old) ≡ path = rw (le-leb (at + t.counts.candidates) (length old) room) (sym p.is) in
+        record { count = rw e; after = rw e w.after; shown = λ k. rw e (p.shown k) }

@@ -15,7 +15,7 @@ pub record StrengthOf (t : Pairwise) (x y s : ℕ) : Type 0 where
   pub strongest : pair t.counts.candidates x y ≡ true → Strongest (win_in t) t.counts.candidates x y s
 
 -- the grid has the strength of each pair
-pub record TableOf (t : Pairwise) (g : Grid) : Type 0 where
+pub record GridOf (t : Pairwise) (g : Grid) : Type 0 where
   pub candidates : g.candidates ≡ t.counts.candidates
   pub each : entry g ≡ strength_in t
 
@@ -23,6 +23,11 @@ pub record TableOf (t : Pairwise) (g : Grid) : Type 0 where
 pub record CutOf (t : Pairwise) (x y set : ℕ) : Type 0 where
   pub is : set ≡ cut (win_in t) t.counts.candidates x y
   pub cuts : pair t.counts.candidates x y ≡ true → Cut (win_in t) t.counts.candidates x y (strength_in t x y) set
+
+-- the row is a strongest path from x to y, or empty where there is none
+pub record PathOf (t : Pairwise) (x y : ℕ) (path : List ℕ) : Type 0 where
+  pub is : path ≡ row (win_in t) t.counts.candidates x y
+  pub shown : 0 < length path → ShowsStrongest (win_in t) (below t.counts.candidates) t.counts.candidates x y (strength_in t x y) path
 
 -- bytes written over others, from a place on: what stands before them and behind them stays
 unfoldable pub put : List ℕ → ℕ → List ℕ → List ℕ

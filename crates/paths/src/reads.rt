@@ -2,7 +2,7 @@
 ghost use Rattle.ballots.specs.declared.refusal.Lent.TheVariants as lent;
 ghost use Rattle.pairwise.specs.Grids.{Copied};
 ghost use Rattle.paths.specs.Strengths.{strength_table};
-ghost use Rattle.paths.specs.Found.{StrengthOf, TableOf};
+ghost use Rattle.paths.specs.Found.{StrengthOf, GridOf};
 
 use crate::Strengths;
 use ballots::{Lent, Refusal};
@@ -16,9 +16,9 @@ impl Strengths {
         self.strengths.at(x, y)
     }
 
-    // The strengths of all pairs, as a table.
-    pub fn table(&self) -> &Grid
-        ensures { TableOf self.now.pairwise result.now }
+    // The strengths of all pairs.
+    pub fn grid(&self) -> &Grid
+        ensures { GridOf self.now.pairwise result.now }
     {
         &self.strengths
     }

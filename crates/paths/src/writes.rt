@@ -1,10 +1,12 @@
 // Writing the strongest path of a pair.
-ghost use Rattle.std.specs.Prelude.{◌≡◌, ◌+◌, ◌<◌, ◌≤◌, length};
+ghost use Rattle.std.specs.Prelude.{◌≡◌, ◌+◌, ◌<◌, ◌≤◌, ◌++◌, length};
+ghost use Rattle.ballots.specs.Format.{most_candidates};
 ghost use Rattle.paths.specs.Rows.{last_below};
 ghost use Rattle.paths.specs.Strengths.{path_in};
-ghost use Rattle.paths.specs.Found.{Wrote, PathWritten};
+ghost use Rattle.paths.specs.Found.{PathOf, PathWritten};
 
 use crate::Strengths;
+use arrayvec::ArrayVec;
 use ballots::{MOST_CANDIDATES, holds};
 
 // The last candidate below the limit that is in the set.
@@ -15,39 +17,45 @@ fn last_below(set: u32, limit: usize) -> Option<usize>
 }
 
 impl Strengths {
-    // Writes what follows x on the path to y over middles below the limit, and answers the place behind it. The last
-    // middle that bettered the pair parts the path; both parts have only earlier middles, and so no candidate in common.
-    fn write_after(&self, limit: usize, x: usize, y: usize, out: &mut [u8], at: usize) -> usize
+    // Puts what follows x on the path to y over middles below the limit behind the path so far. The last middle that
+    // bettered the pair parts it; both parts have only earlier middles, and so no candidate in common.
+    fn push_after(&self, limit: usize, x: usize, y: usize, path: &mut ArrayVec<u8, MOST_CANDIDATES>)
         requires inside { (x < self.now.pairwise.counts.candidates) × ((y < self.now.pairwise.counts.candidates) × (limit ≤ self.now.pairwise.counts.candidates)) }
-        requires room { at + length (path_in self.now.pairwise limit x y) ≤ length out.old }
-        ensures { Wrote (path_in self.now.pairwise limit x y) at out.old out.new result }
+        requires room { length path.old.items + length (path_in self.now.pairwise limit x y) ≤ most_candidates }
+        ensures { path.new.items ≡ path.old.items ++ path_in self.now.pairwise limit x y }
     {
         match last_below(self.middles[x * MOST_CANDIDATES + y], limit) {
-            None => {
-                out[at] = y as u8;
-                at + 1
-            }
+            None => path.push(y as u8),
             Some(middle) => {
-                let next = self.write_after(middle, x, middle, out, at);
-                self.write_after(middle, middle, y, out, next)
+                self.push_after(middle, x, middle, path);
+                self.push_after(middle, middle, y, path);
             }
         }
     }
 
-    // Writes the strongest path from x to y from a place of the slice on, x first and y last, and answers how many
-    // candidates that are: no candidate twice, each winning against the next. Nothing is written and 0 is answered
-    // where there is no path, x is y, there is no such pair, or the slice has no room for all candidates from the place on.
+    // The strongest path from x to y, x first and y last: no candidate twice, each winning against the next. It is empty
+    // where there is no path, x is y, or there is no such pair.
+    pub fn path(&self, x: usize, y: usize) -> ArrayVec<u8, MOST_CANDIDATES>
+        ensures { PathOf self.now.pairwise x y result.items }
+    {
+        let mut path = ArrayVec::new();
+        if self.at(x, y) > 0 {
+            path.push(x as u8);
+            self.push_after(self.pairwise.counts.candidates, x, y, &mut path);
+        }
+        path
+    }
+
+    // Writes the strongest path from x to y from a place of the slice on, and answers how many candidates that are. Nothing
+    // is written where there is no path, or the slice has no room for all candidates from the place on.
     pub fn write_path(&self, x: usize, y: usize, out: &mut [u8], at: usize) -> usize
         ensures { PathWritten self.now.pairwise x y at out.old out.new result }
     {
-        let candidates = self.pairwise.counts.candidates;
-        if self.at(x, y) == 0 {
+        if at > out.len() || out.len() - at < self.pairwise.counts.candidates {
             return 0;
         }
-        if at > out.len() || out.len() - at < candidates {
-            return 0;
-        }
-        out[at] = x as u8;
-        self.write_after(candidates, x, y, out, at + 1) - at
+        let path = self.path(x, y);
+        out[at..at + path.len()].copy_from_slice(&path);
+        path.len()
     }
 }

@@ -2,7 +2,7 @@
 use best::Order;
 
 // The number of ballots, the set of the best, the full order, and the length of the certificate.
-#[derive(Drop)]
+#[derive(Clone, Drop)]
 pub struct Outcome {
     pub ballots: u16,
     pub best: u32,

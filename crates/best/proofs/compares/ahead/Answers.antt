@@ -9,5 +9,5 @@ pub returns : goal.returns
 returns c =
     let t = c.args.strengths.now.pairwise in
     let e : c.ahead_by.result ≡ ahead_by (strength_in t) c.args.x c.args.y =
-    c.ahead_by.ensures ∙ ap (λ s. ahead_by s c.args.x c.args.y) c.table.ensures.each in
+    c.ahead_by.ensures ∙ ap (λ s. ahead_by s c.args.x c.args.y) c.grid.ensures.each in
     record { value = e; meaning = rw e (ahead_meaning (win_in t) t.counts.candidates c.args.x c.args.y) }

@@ -8,7 +8,7 @@ use Rattle.best.proofs.compares.best.Goals as goal
 pub returns : goal.returns
 returns c =
     let t = c.args.strengths.now.pairwise in
-    let h = c.table.ensures in
+    let h = c.grid.ensures in
     let e : c.best_by.result ≡ best_by (strength_in t) t.counts.candidates =
-    c.best_by.ensures ∙ ap (λ s. best_by s c.table.result.now.candidates) h.each ∙ ap {B = ℕ} (λ n. best_by (strength_in t) n) h.candidates in
+    c.best_by.ensures ∙ ap (λ s. best_by s c.grid.result.now.candidates) h.each ∙ ap {B = ℕ} (λ n. best_by (strength_in t) n) h.candidates in
     record { value = e; meaning = rw e (best_meaning (win_in t) t.counts.candidates) }

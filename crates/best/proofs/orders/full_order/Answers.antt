@@ -3,7 +3,7 @@ use Rattle.pairwise.specs.declared.Pairwise.{Pairwise}
 use Rattle.pairwise.specs.declared.grid.Grid.{Grid}
 use Rattle.pairwise.specs.Grids.{entry}
 use Rattle.pairwise.specs.Tables.{win_in}
-use Rattle.paths.specs.Found.{TableOf}
+use Rattle.paths.specs.Found.{GridOf}
 use Rattle.paths.specs.Strengths.{strength_in}
 use Rattle.best.specs.Compared.{before_by, next_by, unbeaten_by}
 use Rattle.best.proofs.Firsts.{Found, by_keys}
@@ -18,7 +18,7 @@ loop-place-init c =
     rw c.new-places.ensures (made_none (win_in t) t.counts.candidates (before_by c.args.tie_break.now.keys) t.counts.few)
 
 -- what `next` answers of the strengths, in the words of the definitions
-next_is : (t : Pairwise) (g : Grid) (keys : List ℕ) (left : List Bool) (r : Option ℕ) → TableOf t g →
+next_is : (t : Pairwise) (g : Grid) (keys : List ℕ) (left : List Bool) (r : Option ℕ) → GridOf t g →
     r ≡ next_by (entry g) g.candidates (before_by keys) (marked left) →
     Found (before_by keys) (λ z. marked left z && unbeaten_by (strength_in t) t.counts.candidates (marked left) z) t.counts.candidates r
 next_is t g keys left r h e =
@@ -33,7 +33,7 @@ pub bounds-left-x : goal.bounds-left-x
 bounds-left-x c = omega (
   arith,
   c.args.strengths.now.pairwise.counts.few,
-  (next_is c.args.strengths.now.pairwise c.table.result.now c.args.tie_break.now.keys c.loop-place.left (Some c.in-Some.x) c.table.ensures c.in-Some.ensures).low,
+  (next_is c.args.strengths.now.pairwise c.grid.result.now c.args.tie_break.now.keys c.loop-place.left (Some c.in-Some.x) c.grid.ensures c.in-Some.ensures).low,
 )
 
 pub loop-place-preserved : goal.loop-place-preserved
@@ -45,11 +45,11 @@ loop-place-preserved c =
     let left : List Bool = c.loop-place.left in
     elim c.match-next.branch [
       | in-Some w ↦
-          let f = next_is t c.table.result.now keys left (Some w.in-Some.x) c.table.ensures w.in-Some.ensures in
+          let f = next_is t c.grid.result.now keys left (Some w.in-Some.x) c.grid.ensures w.in-Some.ensures in
           rw (w.left-is, w.places-is, w.push.ensures.items) (made_more (win_in t) n before t.counts.few c.loop-place._place w.in-Some.x left c.loop-place.places.items
           (omega arith) f.low (next_meaning (win_in t) n before (marked left) w.in-Some.x f) c.loop-place.invariant)
       | in_default w ↦ absurd (made_some (win_in t) n before t.counts.few c.loop-place._place left c.loop-place.places.items (omega arith) c.loop-place.invariant
-          (next_is t c.table.result.now keys left None c.table.ensures w.in_default.ensures))
+          (next_is t c.grid.result.now keys left None c.grid.ensures w.in_default.ensures))
     ]
 
 pub returns : goal.returns

@@ -25,6 +25,6 @@ returns c =
     let t = c.args.found.now.pairwise in
     let room = room_parts t.counts.candidates (length c.args.table.now) (length c.args.strengths.now) (length c.args.sheet.now) (sym c.in_ok-check_room.ensures) in
     record {
-      written = certifies_table t _ _ _ _ _ _ _ _ room c.in_ok-copy_to.ensures c.in_ok-copy_to-2.ensures c.best-best.ensures.value c.write_certificate.ensures;
-      best = best_of_table t _ _ _ _ _ _ _ _ room c.in_ok-copy_to.ensures c.in_ok-copy_to-2.ensures c.best-best.ensures.value c.write_certificate.ensures;
+      written = certifies_table t _ _ _ _ _ _ _ _ room c.in_ok-copy_to.ensures c.in_ok-copy_to-2.ensures c.best-best.ensures.value c.write_certificate-length.ensures;
+      best = best_of_table t _ _ _ _ _ _ _ _ room c.in_ok-copy_to.ensures c.in_ok-copy_to-2.ensures c.best-best.ensures.value c.write_certificate-length.ensures;
     }

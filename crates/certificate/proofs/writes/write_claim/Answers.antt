@@ -1,10 +1,10 @@
-use Rattle.std.proofs.Common.{ℕ, ◌+◌, ◌≤◌, ◌≢◌, length, sym, refl, ap, ◌∙◌, arith}
+use Rattle.std.proofs.Common.{◌≡◌, ℕ, ◌+◌, ◌≤◌, ◌≢◌, length, sym, ap, ◌∙◌, arith}
 use Rattle.pairwise.specs.declared.Pairwise.{Pairwise}
 use Rattle.pairwise.specs.Tables.{win_in}
 use Rattle.paths.specs.Rows.{row}
 use Rattle.certificate.specs.Layout.{two_bytes, four_bytes, claim_bytes}
 use Rattle.certificate.specs.Parts.{found_in}
-use Rattle.certificate.proofs.Writing.{put_none, put_as, path_count, path_front, put_entry, claim_other, claim_none, claim_length}
+use Rattle.certificate.proofs.Writing.{put_none, put_as, put_entry, claim_other, claim_none, claim_length}
 use Rattle.certificate.proofs.writes.write_claim.Goals as goal
 
 -- the room that the entry takes
@@ -15,24 +15,13 @@ room t x y at n ne h = omega (arith, claim_length (found_in t) x y ne)
 pub returns-then-x-y : goal.returns-then-x-y
 returns-then-x-y c = put_as (sym (claim_none _ _ _ c.if-x-y.true)) (put_none _)
 
-pub put-requires-3 : goal.put-requires-3
-put-requires-3 c =
-    let fits = room c.args.strengths.now.pairwise _ _ _ _ c.if-x-y.false c.requires in
-    let front = path_front _ _ _ _ _ _ c.write_path-count.ensures refl in
-    omega (arith, ap length front, ap length c.to_le_bytes.ensures)
-
-pub put-requires-4 : goal.put-requires-4
-put-requires-4 c =
-    let fits = room c.args.strengths.now.pairwise _ _ _ _ c.if-x-y.false c.requires in
-    let front = path_front _ _ _ _ _ _ c.write_path-count.ensures refl in
-    omega (arith, ap length front, ap length c.to_le_bytes.ensures, ap length c.to_le_bytes-2.ensures)
-
 pub returns : goal.returns
 returns c =
-    let w = c.write_path-count.ensures in
+    let t = c.args.strengths.now.pairwise in
+    let is = c.path-path.ensures.is in
     put_as (sym (claim_other _ _ _ c.if-x-y.false))
-    (put_entry _ _ _ _ (path_count _ _ _ _ _ _ w refl) (room c.args.strengths.now.pairwise _ _ _ _ c.if-x-y.false c.requires)
+    (put_entry _ _ _ _ (c.len.ensures.value ∙ ap length is) (room t _ _ _ _ c.if-x-y.false c.requires)
     (put_as (c.to_le_bytes.ensures ∙ ap two_bytes c.at.ensures.is) c.put.ensures)
     c.put-2.ensures
-    (put_as (path_front _ _ _ _ _ _ w refl) c.put-3.ensures)
+    (put_as (c.deref.ensures.0 ∙ is) c.put-3.ensures)
     (put_as (c.to_le_bytes-2.ensures ∙ ap four_bytes c.cut.ensures.is) c.put-4.ensures))

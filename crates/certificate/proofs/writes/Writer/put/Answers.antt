@@ -1,5 +1,5 @@
 use Rattle.std.proofs.Common.{refl, arith, rules}
-use Rattle.certificate.proofs.Writing.{wrote_part}
+use Rattle.paths.proofs.Written.{wrote_part}
 use Rattle.certificate.proofs.writes.Writer.put.Goals as goal
 
 pub returns : goal.returns
