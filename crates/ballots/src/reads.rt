@@ -15,7 +15,7 @@ pub fn read(bytes: &[u8]) -> Result<BallotFile<'_>, Refusal>
         return Err(Refusal::Length { at: 0 });
     };
     let candidates = usize::from(*first);
-    if candidates == 0 || candidates > MOST_CANDIDATES {
+    if !(1..=MOST_CANDIDATES).contains(&candidates) {
         return Err(Refusal::Candidates);
     }
     let Some([_, low, high]) = bytes.first_chunk::<HEADER_LENGTH>() else {

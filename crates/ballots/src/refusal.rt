@@ -11,7 +11,7 @@ const PAIR_STRIDE: usize = 32;
 // The place of the set of the best, behind that of every pair.
 const BEST_PLACE: usize = 1023;
 
-// A slice that the caller lends to be written.
+// A slice that the caller lends to be written. The place of each in a refusal is its place here.
 #[derive(Clone, Copy, PartialEq, Eq, Debug)]
 pub enum Lent {
     Table,
@@ -72,6 +72,7 @@ impl Refusal {
     }
 }
 
+// By hand, since what a derive prints is not stated.
 impl fmt::Display for Refusal {
     ghost output = { λ r. Some (told r) };
 

@@ -1,4 +1,4 @@
-// Candidates struck off every ballot.
+// Candidates struck off every ballot, into a slice that the caller lends: nothing here allocates.
 ghost use Rattle.std.specs.Prelude.{◌≡◌, ◌<◌, length, All};
 ghost use Rattle.ballots.specs.Sets.{holds};
 ghost use Rattle.ballots.specs.Strikes.{kept, ranks_at, Strikes};
@@ -7,7 +7,7 @@ use crate::file::HEADER_LENGTH;
 use crate::{BallotFile, Lent, MOST_CANDIDATES, Refusal, holds, read};
 use arrayvec::ArrayVec;
 
-// The candidates that stay, in order.
+// The candidates that stay, in order. A plain `for`: `collect` takes an allocator.
 fn staying(file: BallotFile<'_>, keep: u32) -> ArrayVec<usize, MOST_CANDIDATES>
     ensures { result.items ≡ kept (holds keep) file.entry.candidates }
 {
@@ -20,7 +20,8 @@ fn staying(file: BallotFile<'_>, keep: u32) -> ArrayVec<usize, MOST_CANDIDATES>
     staying
 }
 
-// Writes the ranks of the candidates that stay.
+// Writes the ranks of the candidates that stay. By their places: of what is written through `iter_mut` and `zip` a proof
+// knows nothing.
 fn strike_ballot(ballot: &[u8], staying: &[usize], out: &mut [u8])
     requires inside { All (λ x. x < length ballot.now) staying.now }
     requires room { length out.old ≡ length staying.now }

@@ -65,6 +65,7 @@ fn next(strengths: &Grid, tie_break: &TieBreak, left: &[bool; MOST_CANDIDATES]) 
 pub fn full_order(strengths: &Strengths, tie_break: &TieBreak) -> Order
     ensures { OrderOf strengths.now.pairwise (before_by tie_break.now.keys) result }
 {
+    // Marks and no set as bits: to take a candidate out is one write.
     let mut left = [true; MOST_CANDIDATES];
     let mut places = ArrayVec::new();
     for _place in 0..strengths.pairwise.counts.candidates {

@@ -1,4 +1,4 @@
-// Certifying a count.
+// Certifying a count, in slices that the caller lends: nothing here allocates.
 ghost use Rattle.std.specs.Prelude.{◌≡◌, take, IfOk, None};
 ghost use Rattle.ballots.specs.Format.{unranked, candidates_in, ballots_of};
 ghost use Rattle.ballots.specs.Lending.{answered};

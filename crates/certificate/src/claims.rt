@@ -40,7 +40,7 @@ fn crosses(table: &Pairwise, set: u32, strength: u16, a: usize, b: usize) -> boo
     holds(set, a) && !holds(set, b) && strength < table.win(a, b)
 }
 
-// Whether a crosses to nobody.
+// Whether a crosses to nobody. A function of its own: one chain inside another finds no proof.
 fn stays(table: &Pairwise, set: u32, strength: u16, a: usize) -> bool
     ensures { result ≡ every (λ b. not (crosses (win_in table.now) strength set a b)) table.now.counts.candidates }
 {

@@ -45,7 +45,7 @@ fn check_claim(table: &Pairwise, reader: &mut Reader, x: usize, y: usize) -> Res
     check_entry(table, reader, x, y)
 }
 
-// Reads the entries of all pairs, and answers the strengths in them.
+// Reads the entries of all pairs, and answers the strengths in them. Two plain `for`s: the reader goes on at each pair.
 pub(crate) fn check_entries(table: &Pairwise, reader: &mut Reader) -> Result<Grid, Refusal>
     requires { AtEntry table.now 0 0 reader.old }
     ensures { ReadsEntries table.now reader.old reader.new result }

@@ -26,7 +26,8 @@ fn check_number(reader: &mut Reader, number: u16) -> Result<(), Refusal>
     check_byte(reader, high)
 }
 
-// Reads the number of candidates and the table, which have to be those of the table that is given.
+// Reads the number of candidates and the table, which have to be those of the table that is given. Two plain `for`s: the
+// reader goes on at each pair.
 pub(crate) fn check_table(table: &Pairwise, reader: &mut Reader) -> Result<(), Refusal>
     ensures { Passes (front_bytes table.now) reader.old reader.new result }
 {

@@ -29,7 +29,7 @@ impl Writer<'_> {
     }
 }
 
-// Writes the number of candidates and the table.
+// Writes the number of candidates and the table. Two plain `for`s, as for the entries: the writer goes on at each pair.
 fn write_table(table: &Pairwise, writer: &mut Writer)
     requires { HasRoom (front_bytes table.now) writer.old }
     ensures { Put (front_bytes table.now) writer.old writer.new }

@@ -21,7 +21,8 @@ fn keys_of(ballot: &[u8]) -> [u8; MOST_CANDIDATES]
     keys
 }
 
-// Adds one to the count of each pair whose first candidate the ballot puts over the second.
+// Adds one to the count of each pair whose first candidate the ballot puts over the second. By their places, as the keys
+// are made: of what is written through `iter_mut` and its adapters a proof knows nothing.
 pub(crate) fn add_ballot(counts: &mut [u16; CELLS], ballot: &[u8])
     requires few { length ballot.now ≤ most_candidates }
     requires room { (x y : ℕ) → x < most_candidates → y < most_candidates → cell counts.old x y < 65535 }

@@ -1,4 +1,4 @@
-// The numbers of a grid, read and copied.
+// The numbers of a grid, read, and copied to a slice that the caller lends.
 ghost use Rattle.std.specs.Prelude.{◌≡◌};
 ghost use Rattle.pairwise.specs.Grids.{entry, table, Copied};
 
@@ -6,7 +6,7 @@ use crate::Grid;
 use ballots::{Lent, MOST_CANDIDATES, Refusal};
 
 impl Grid {
-    // The number of the pair x, y; 0 where there is no such pair.
+    // The number of the pair x, y; 0 where there is no such pair, as no ballot and no path has one.
     pub fn at(&self, x: usize, y: usize) -> u16
         ensures { result ≡ entry self.now x y }
     {

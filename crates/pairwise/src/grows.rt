@@ -10,7 +10,7 @@ impl Pairwise {
     pub fn empty(candidates: usize) -> Result<Pairwise, Refusal>
         ensures { Emptied candidates result }
     {
-        if candidates == 0 || candidates > MOST_CANDIDATES {
+        if !(1..=MOST_CANDIDATES).contains(&candidates) {
             return Err(Refusal::Candidates);
         }
         let cells = [0u16; CELLS];

@@ -33,7 +33,8 @@ fn better(cells: &mut [u16; CELLS], middles: &mut [u32; CELLS], middle: usize, x
     }
 }
 
-// No path leads from a candidate to itself: the circles that were found are taken out.
+// No path leads from a candidate to itself: the circles that were found are taken out. By their places: of what is written
+// through `iter_mut().step_by(..)` a proof knows nothing.
 fn clear_diagonal(cells: &mut [u16; CELLS], candidates: usize)
     requires { candidates ≤ most_candidates }
     ensures { Cleared candidates cells.old cells.new }

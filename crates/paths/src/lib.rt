@@ -13,7 +13,8 @@ mod reads;
 mod writes;
 
 // The pairwise counts, the strength of each pair, and for each pair the set of the candidates that bettered it
-// as the one in the middle. All of it follows from the counts.
+// as the one in the middle: beside the strengths, which are a grid to be read, lent and compared as one. All of it follows
+// from the counts.
 #[derive(Clone, Copy)]
 pub struct Strengths {
     pub pairwise: Pairwise,

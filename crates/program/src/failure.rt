@@ -21,6 +21,7 @@ pub enum Failure {
     Unsaid,
 }
 
+// By hand, since what `thiserror` derives has no contract.
 impl From<Refusal> for Failure {
     ghost from_gives = { λ refusal failure. failure ≡ Refused refusal };
 

@@ -1,4 +1,4 @@
-// Lots that decide between equals, and the whole count.
+// The draw that decides between equals, and the whole count.
 #![tactic(auto)]
 
 mod counts;

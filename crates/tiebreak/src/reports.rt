@@ -39,7 +39,8 @@ impl Reported<'_> {
         writeln!(f)
     }
 
-    // Writes a line for each pair whose first candidate is ahead of the second.
+    // Writes a line for each pair whose first candidate is ahead of the second. Plain `for`s here and above: each write may
+    // fail.
     fn write_ahead<W: fmt::Write>(&self, f: &mut fmt::Formatter<W>) -> fmt::Result
         ensures { let v = length self.now.outcome.now.order.places.items in WritesOnOk W.write_str_gives f.old result (ahead_lines (number_at v self.now.strengths.now) v) f.new }
     {
