@@ -2,14 +2,14 @@
 use best::best_of_both;
 
 // 2 × (1 3 4 2), 2 × (2 3 4 1), 3 × (3 1 2 4), 2 × (2 4 1 3)
-const TWINS: [u8; 39] = [
+const CLONES: [u8; 39] = [
     4, 9, 0, 1, 3, 4, 2, 1, 3, 4, 2, 2, 3, 4, 1, 2, 3, 4, 1, 3, 1, 2, 4, 3, 1, 2, 4, 3, 1, 2, 4, 2,
     4, 1, 3, 2, 4, 1, 3,
 ];
 
 fn print_both(rt: &HostRuntime, name: &str, keep: u32, room: usize) -> anyhow::Result<()> {
     let mut struck = vec![in rt.alloc(); 0u8; room]?;
-    match best_of_both(&TWINS, keep, &mut struck) {
+    match best_of_both(&CLONES, keep, &mut struck) {
         Ok(both) => println!(rt; "{name}: best {:b}, then {:b}", both.all, both.kept)?,
         Err(refusal) => println!(rt; "{name}: {refusal}")?,
     }

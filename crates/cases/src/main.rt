@@ -3,7 +3,7 @@
 #![tactic(auto)]
 
 mod clones;
-mod lots;
+mod draws;
 mod running;
 mod sheets;
 
@@ -15,6 +15,6 @@ const CIRCLE: [u8; 30] = [
 fn main(rt: HostRuntime) -> anyhow::Result<()> {
     clones::all(&rt)?;
     sheets::all(&rt)?;
-    lots::all(&rt)?;
+    draws::all(&rt)?;
     running::all(&rt)
 }

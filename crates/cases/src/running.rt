@@ -23,7 +23,7 @@ pub fn all(rt: &HostRuntime) -> anyhow::Result<()> {
     print_refused(rt, "30 candidates", 30)?;
     print_refused(rt, "31 candidates", 31)?;
     let mut count = Provisional::new(3)?;
-    for ballot in CIRCLE[3..].chunks(3) {
+    for ballot in ballots::read(&CIRCLE)?.iter() {
         add(rt, &mut count, ballot)?;
     }
     add(rt, &mut count, &[1, 2])?;

@@ -3,7 +3,7 @@ use crate::CIRCLE;
 use anyhow::ensure;
 use certificate::{LONGEST, certify, check};
 use pairwise::CELLS;
-use std::alloc::{AllocError, Global};
+use std::alloc::Global;
 
 // A damage by its name, a place in the circle's certificate, and the byte that is put there. The entries of the circle,
 // 0 over 1 with 6, 1 over 2 with 7, 2 over 0 with 5, start at 19, 28, 38, 48, 57 and 66: two bytes of strength, the count
@@ -77,7 +77,7 @@ fn print_damages(rt: &HostRuntime, sheet: &[u8]) -> anyhow::Result<()> {
 // Cut short before, in and behind each part.
 fn print_cuts(rt: &HostRuntime, sheet: &[u8]) -> anyhow::Result<()> {
     for end in [0, 1, 18, 20, 21, 22, 26, 67, 68, 70, 74, 78, 80usize] {
-        if let Some(cut) = sheet.get(0..end) {
+        if let Some(cut) = sheet.get(..end) {
             print!(rt; "{end} bytes ")?;
             print_verdict(rt, "of the sheet", cut)?;
         }
@@ -85,41 +85,29 @@ fn print_cuts(rt: &HostRuntime, sheet: &[u8]) -> anyhow::Result<()> {
     Ok(())
 }
 
-fn joined(heap: Global, parts: &[&[u8]]) -> Result<Vec<u8>, AllocError> {
-    let mut bytes = Vec::new(heap);
-    for part in parts {
-        bytes.extend_from_slice(part)?;
-    }
-    Ok(bytes)
-}
-
-// With bytes put in: one too many, a path that passes candidates twice, and strengths of 0 with empty paths.
+// With bytes put in: one too many, a path that passes candidates twice, and strengths of 0 with empty paths. Parts begin
+// at `0..`: with `..` alone the check does not find that they lie inside.
 fn print_others(rt: &HostRuntime, sheet: &[u8]) -> anyhow::Result<()> {
     ensure!(
         sheet.len() == 80,
         "the circle's certificate has another length"
     );
     let heap = rt.alloc();
-    let long = joined(heap, &[sheet, &[0]])?;
+    let long = [sheet, &[0]].concat(heap)?;
     print_verdict(rt, "a byte too many", &long)?;
-    let twice = joined(
-        heap,
-        &[&sheet[0..68], &[6, 2, 0, 1, 2, 0, 1], &sheet[72..80]],
-    )?;
+    let twice = [&sheet[0..68], &[6, 2, 0, 1, 2, 0, 1], &sheet[72..]].concat(heap)?;
     print_verdict(rt, "last path, another one", &twice)?;
-    let none = joined(
-        heap,
-        &[
-            &sheet[0..19],
-            &[0, 0, 0, 1, 0, 0, 0],
-            &[0, 0, 0, 3, 0, 0, 0],
-            &[0, 0, 0, 2, 0, 0, 0],
-            &[0, 0, 0, 2, 0, 0, 0],
-            &[0, 0, 0, 4, 0, 0, 0],
-            &[0, 0, 0, 4, 0, 0, 0],
-            &[7, 0, 0, 0],
-        ],
-    )?;
+    let none = [
+        &sheet[0..19],
+        &[0, 0, 0, 1, 0, 0, 0],
+        &[0, 0, 0, 3, 0, 0, 0],
+        &[0, 0, 0, 2, 0, 0, 0],
+        &[0, 0, 0, 2, 0, 0, 0],
+        &[0, 0, 0, 4, 0, 0, 0],
+        &[0, 0, 0, 4, 0, 0, 0],
+        &[7, 0, 0, 0],
+    ]
+    .concat(heap)?;
     print_verdict(rt, "strengths of 0 with empty paths", &none)
 }
 

@@ -1,7 +1,7 @@
 // Random files with a clone set, of which some are struck.
 ghost use Rattle.std.specs.Prelude.{◌*◌, ◌≤◌};
 
-use crate::failure::{Disagreement, Failure};
+use crate::failure::Failure;
 use crate::random::{MOST_LEVELS, Random, Ranks};
 use crate::slow::MOST;
 use ballots::holds;
@@ -128,7 +128,8 @@ impl Clones {
     }
 }
 
-// Whether the struck file is as it is to become, with nothing written behind it, and the best of both files agree.
+// Whether the struck file is as it is to become, with nothing written behind it, and the best of both files agree. Every
+// file here is one of ballots, so that a refusal is itself the disagreement.
 fn agree(heap: Global, clones: &Clones, files: &Files) -> Result<bool, AllocError> {
     let mut struck = vec![in heap; 0u8; files.all.len()]?;
     let Ok(both) = best_of_both(&files.all, clones.stay, &mut struck) else {
@@ -151,10 +152,9 @@ fn trial(random: &mut Random) -> Result<(), Failure> {
     if agree(random.heap, &clones, &files)? {
         return Ok(());
     }
-    Err(Failure::Trial {
-        what: Disagreement::Striking,
+    Err(Failure::Striking {
         file: files.all,
-        other: files.struck,
+        struck: files.struck,
     })
 }
 

@@ -45,7 +45,7 @@ fn cut_agrees(strengths: &Strengths, slow: &SlowCount<'_>, x: usize, y: usize) -
 fn orders_agree(strengths: &Strengths, slow: &SlowCount<'_>, tie_break: &TieBreak) -> bool {
     let counted = best::full_order(strengths, tie_break);
     let expected = slow.order(&tie_break.keys);
-    Some(counted.places.as_slice()) == expected.get(..slow.candidates)
+    counted.places.as_slice() == expected.as_slice()
 }
 
 // Whether the strengths, paths and cuts of all pairs and the best agree. Plain `for`s: each test has an error of its own.
@@ -95,12 +95,10 @@ impl Tally {
         let file = random.file()?;
         let slow = SlowCount::of(&file);
         if let Err(what) = compare(&slow, &random.tie_break()) {
-            let other = Vec::new(random.heap);
-            return Err(Failure::Trial { what, file, other });
+            return Err(Failure::Count { what, file });
         }
-        if let Some(other) = self.verdicts.wrong_sheet(random, &slow)? {
-            let what = Disagreement::Sheets;
-            return Err(Failure::Trial { what, file, other });
+        if let Some(sheet) = self.verdicts.wrong_sheet(random, &slow)? {
+            return Err(Failure::Sheets { file, sheet });
         }
         if slow.goes_over_others() {
             self.over_others = self.over_others.saturating_add(1);

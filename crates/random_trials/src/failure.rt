@@ -3,7 +3,7 @@ use std::alloc::AllocError;
 use std::io;
 use thiserror::Error;
 
-// What the count and the slow count do not agree in.
+// What the counts of a file do not agree in.
 #[derive(Clone, Copy, Debug, Error)]
 pub enum Disagreement {
     #[error("refused")]
@@ -20,21 +20,17 @@ pub enum Disagreement {
     Orders,
     #[error("orders disagree by a tie-break")]
     TieBreakOrders,
-    #[error("sheets disagree")]
-    Sheets,
-    #[error("striking disagrees")]
-    Striking,
 }
 
 #[derive(Debug, Drop, Error)]
 pub enum Failure {
-    // What else the trial is about is a certificate, or the file when candidates are struck.
-    #[error("{what}: {file:?} {other:?}")]
-    Trial {
-        what: Disagreement,
-        file: Vec<u8>,
-        other: Vec<u8>,
-    },
+    // Behind the file stands what else the trial is about: here nothing.
+    #[error("{what}: {file:?} []")]
+    Count { what: Disagreement, file: Vec<u8> },
+    #[error("sheets disagree: {file:?} {sheet:?}")]
+    Sheets { file: Vec<u8>, sheet: Vec<u8> },
+    #[error("striking disagrees: {file:?} {struck:?}")]
+    Striking { file: Vec<u8>, struck: Vec<u8> },
     #[error(transparent)]
     Memory(#[from(alloc)] AllocError),
     #[error(transparent)]

@@ -48,14 +48,13 @@ impl Random {
     pub fn below(&mut self, limit: u8) -> u8
         ensures { result ≤ limit - 1 }
     {
-        if limit == 0 {
-            return 0;
-        }
-        (self.number() % u64::from(limit)) as u8
+        self.place(usize::from(limit)) as u8
     }
 
-    // A place in so many bytes; 0 where there is none.
-    pub fn place(&mut self, length: usize) -> usize {
+    // A place in so many bytes; 0 where there is none. std has no `From<u64> for usize`, hence `as`.
+    pub fn place(&mut self, length: usize) -> usize
+        ensures { result ≤ length - 1 }
+    {
         if length == 0 {
             return 0;
         }

@@ -23,6 +23,22 @@ pub struct Verdicts {
     pub twice: u32,
 }
 
+// How often a path may pass a candidate.
+#[derive(Clone, Copy)]
+enum Passing {
+    Once,
+    Any,
+}
+
+impl Passing {
+    fn allows(self, row: &[u8]) -> bool {
+        match self {
+            Passing::Once => !SlowCount::passes_twice(row),
+            Passing::Any => true,
+        }
+    }
+}
+
 // What a certificate says of a pair: the strength, the path that shows it and the cut that bounds it.
 #[derive(Clone, Copy)]
 struct Entry<'a> {
@@ -32,10 +48,10 @@ struct Entry<'a> {
 }
 
 impl Entry<'_> {
-    fn is_right(&self, slow: &SlowCount<'_>, x: usize, y: usize, twice: bool) -> bool {
+    fn is_right(&self, slow: &SlowCount<'_>, x: usize, y: usize, passing: Passing) -> bool {
         self.strength == slow.strength(x, y)
             && slow.is_path(x, y, self.row)
-            && (twice || !SlowCount::passes_twice(self.row))
+            && passing.allows(self.row)
             && slow.is_cut(x, y, self.cut)
     }
 }
@@ -93,14 +109,14 @@ impl<'a> Reader<'a> {
         true
     }
 
-    // Whether the entries are right; their paths may pass a candidate twice where that is said.
-    fn has_entries(&mut self, slow: &SlowCount<'_>, twice: bool) -> bool {
+    // Whether the entries are right.
+    fn has_entries(&mut self, slow: &SlowCount<'_>, passing: Passing) -> bool {
         for x in 0..slow.candidates {
             for y in 0..slow.candidates {
                 if x != y
                     && !self
                         .entry()
-                        .is_some_and(|entry| entry.is_right(slow, x, y, twice))
+                        .is_some_and(|entry| entry.is_right(slow, x, y, passing))
                 {
                     return false;
                 }
@@ -111,11 +127,11 @@ impl<'a> Reader<'a> {
 }
 
 // Whether the certificate has all that it should have, with nothing behind it.
-fn is_as_said(slow: &SlowCount<'_>, sheet: &[u8], twice: bool) -> bool {
+fn is_as_said(slow: &SlowCount<'_>, sheet: &[u8], passing: Passing) -> bool {
     let mut reader = Reader { rest: sheet };
     reader.byte().map(usize::from) == Some(slow.candidates)
         && reader.has_table(slow)
-        && reader.has_entries(slow, twice)
+        && reader.has_entries(slow, passing)
         && reader.set() == Some(slow.best())
         && reader.rest.is_empty()
 }
@@ -170,17 +186,13 @@ fn lengthened(random: &mut Random, sheet: &[u8]) -> Result<Vec<u8>, AllocError> 
     let length = sheet.get(place).copied().unwrap_or(0);
     let candidates = sheet.first().copied().unwrap_or(0);
     let turn = place + 1 + usize::from(random.below(length));
-    let mut other = Vec::new(random.heap);
-    for (at, byte) in sheet.iter().enumerate() {
-        if at == place {
-            other.push(byte.wrapping_add(3))?;
-        } else {
-            other.push(*byte)?;
-        }
-        if at == turn {
-            let detour = [random.below(candidates), random.below(candidates), *byte];
-            other.extend_from_slice(&detour)?;
-        }
+    let mut other = sheet.to_vec(random.heap)?;
+    if let Some(byte) = other.get_mut(place) {
+        *byte = length.wrapping_add(3);
+    }
+    if let Some(byte) = sheet.get(turn) {
+        let detour = [random.below(candidates), random.below(candidates), *byte];
+        let _ = other.splice(turn + 1..turn + 1, detour)?;
     }
     Ok(other)
 }
@@ -198,8 +210,8 @@ impl Verdicts {
     // since nothing here bounds how many certificates come.
     fn agrees(&mut self, slow: &SlowCount<'_>, sheet: &[u8]) -> bool {
         let accepted = check(slow.bytes, sheet).is_ok();
-        let right = is_as_said(slow, sheet, true);
-        let simple = is_as_said(slow, sheet, false);
+        let right = is_as_said(slow, sheet, Passing::Any);
+        let simple = is_as_said(slow, sheet, Passing::Once);
         self.refused = self.refused.saturating_add(u32::from(!accepted));
         self.accepted = self.accepted.saturating_add(u32::from(accepted));
         self.twice = self.twice.saturating_add(u32::from(right && !simple));
@@ -222,7 +234,8 @@ impl Verdicts {
         Ok(None)
     }
 
-    // The certificate that is wrong, or that the checker is wrong on.
+    // The certificate that is wrong, or that the checker is wrong on. The file is one of ballots and there is room, so that a
+    // refusal is itself the disagreement.
     pub fn wrong_sheet(
         &mut self,
         random: &mut Random,
@@ -236,7 +249,7 @@ impl Verdicts {
         };
         sheet.truncate(certified.length);
         if certified.best != slow.best()
-            || !is_as_said(slow, &sheet, false)
+            || !is_as_said(slow, &sheet, Passing::Once)
             || check(slow.bytes, &sheet).is_err()
         {
             return Ok(Some(sheet));

@@ -1,6 +1,8 @@
 // A slow count of small files, which tries every path that there is. It shares no code with the count that it is
 // compared with.
 
+use arrayvec::ArrayVec;
+
 // The greatest number of candidates that the slow count takes.
 pub const MOST: usize = 6;
 
@@ -194,14 +196,13 @@ impl<'a> SlowCount<'a> {
         !earlier && self.unbeaten(left, x)
     }
 
-    // The full order, and 0 behind it.
-    pub fn order(&self, keys: &[u8]) -> [usize; MOST] {
+    // The full order.
+    pub fn order(&self, keys: &[u8]) -> ArrayVec<usize, MOST> {
         let mut left = self.everybody();
-        let mut order = [0; MOST];
-        for place in order.iter_mut() {
-            let next = (0..MOST).find(|x| left[*x] && self.comes_next(keys, &left, *x));
-            if let Some(x) = next {
-                *place = x;
+        let mut order = ArrayVec::new();
+        for _place in 0..MOST {
+            if let Some(x) = (0..MOST).find(|x| left[*x] && self.comes_next(keys, &left, *x)) {
+                order.push(x);
                 left[x] = false;
             }
         }
@@ -226,14 +227,7 @@ impl<'a> SlowCount<'a> {
 
     // Whether some candidate stands in the row twice.
     pub fn passes_twice(row: &[u8]) -> bool {
-        let mut passed = [false; 256];
-        for z in row {
-            if passed[usize::from(*z)] {
-                return true;
-            }
-            passed[usize::from(*z)] = true;
-        }
-        false
+        row.iter().enumerate().any(|(at, z)| row[..at].contains(z))
     }
 
     // Whether the set has x and not y, only candidates, and no win across above the strength.
