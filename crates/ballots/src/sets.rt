@@ -1,4 +1,4 @@
-// Sets of candidates, as the bits of a number.
+// Sets of candidates, as the bits of a number: so they stand in certificates.
 ghost use Rattle.std.specs.Prelude.{◌≡◌, ℕ, Bool, min};
 ghost use Rattle.ballots.specs.Sets.{holds, set_of};
 

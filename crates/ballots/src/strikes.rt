@@ -48,6 +48,7 @@ pub fn strike(bytes: &[u8], keep: u32, out: &mut [u8]) -> Result<usize, Refusal>
         return Err(Refusal::Short(Lent::Ballots));
     }
     out[..HEADER_LENGTH].copy_from_slice(&[stay as u8, bytes[1], bytes[2]]);
+    // By its place, as in `strike_ballot`.
     for (i, ballot) in file.iter().enumerate() {
         let start = HEADER_LENGTH + i * stay;
         strike_ballot(ballot, &staying, &mut out[start..start + stay]);

@@ -1,4 +1,5 @@
-// The entries of a certificate: one for each pair of different candidates.
+// The entries of a certificate: one for each pair of different candidates. A pair is two numbers x and y, as in every
+// definition: a type for it would be no plainer.
 ghost use Rattle.std.specs.Prelude.{◌<◌, ◌≢◌};
 ghost use Rattle.certificate.specs.Progress.{AtEntry, ReadsEntry, ReadsClaim, ReadsEntries};
 

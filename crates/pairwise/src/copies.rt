@@ -1,4 +1,5 @@
-// The numbers of a grid, read, and copied to a slice that the caller lends.
+// The numbers of a grid, read, and copied to a slice that the caller lends. A pair is two numbers x and y, as in every
+// definition: a type for it would be no plainer.
 ghost use Rattle.std.specs.Prelude.{◌≡◌};
 ghost use Rattle.pairwise.specs.Grids.{entry, table, Copied};
 

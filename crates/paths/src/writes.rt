@@ -1,4 +1,4 @@
-// Writing the strongest path of a pair.
+// The strongest path of a pair, which is two numbers x and y, as in every definition: a type for it would be no plainer.
 ghost use Rattle.std.specs.Prelude.{◌≡◌, ◌+◌, ◌<◌, ◌≤◌, ◌++◌, length};
 ghost use Rattle.ballots.specs.Format.{most_candidates};
 ghost use Rattle.paths.specs.Rows.{last_below};
