@@ -1,5 +1,6 @@
 // The entries of a certificate: one for each pair of different candidates. A pair is two numbers x and y, as in every
-// definition: a type for it would be no plainer.
+// definition: a type for it would be no plainer. Where the reader stands is asked for by each function, since it is
+// another place for each pair.
 ghost use Rattle.std.specs.Prelude.{◌<◌, ◌≢◌};
 ghost use Rattle.certificate.specs.Progress.{AtEntry, ReadsEntry, ReadsClaim, ReadsEntries};
 
