@@ -46,8 +46,8 @@ impl Strengths {
         path
     }
 
-    // Writes the strongest path from x to y from a place of the caller's slice on, and answers how many candidates that are. Nothing
-    // is written where there is no path, or the slice has no room for all candidates from the place on.
+    // Writes the strongest path from x to y from a place of the caller's slice on, and answers how many candidates that
+    // are. Nothing is written where there is no path, or the slice has no room for all candidates from the place on.
     pub fn write_path(&self, x: usize, y: usize, out: &mut [u8], at: usize) -> usize
         ensures { PathWritten self.now.pairwise x y at out.old out.new result }
     {
