@@ -7,8 +7,8 @@ use Rattle.std.proofs.lemmas.Bool.{cases_lt, lt-ltb, le-ltb}
 use Rattle.std.proofs.lemmas.Bool.Decides.{nat_tests}
 use Rattle.ballots.specs.Format.{most_candidates, unranked, rank_of, ranks_of, ballot_bytes}
 use Rattle.pairwise.specs.Counts.{over, count}
-use Rattle.pairwise.specs.Grids.{cell, within}
-use Rattle.pairwise.specs.Tables.{preference, Counted}
+use Rattle.pairwise.specs.Grids.{within}
+use Rattle.pairwise.specs.Tables.{preference}
 
 -- the preference of a ballot between two of its candidates, by their ranks
 preference_by_rank : (p : List ℕ) (x y : ℕ) → x < length p → y < length p → preference p x y ≡ cond (ltb (rank_of (get_or p x 0)) (rank_of (get_or p y 0))) 1 0
@@ -17,6 +17,15 @@ preference_by_rank p x y h k = rw (lt-ltb x (length p) h, lt-ltb y (length p) k,
 
 preference_none : (p : List ℕ) (x y : ℕ) → length p ≤ y → preference p x y ≡ 0
 preference_none p x y h = grind (arith, nat_tests)
+
+one_at_most : (b : Bool) → cond b 1 0 ≤ 1
+one_at_most true = omega arith
+one_at_most false = omega arith
+
+-- a ballot adds one at most
+pub preference_le : (p : List ℕ) (x y : ℕ) → preference p x y ≤ 1
+preference_le p x y = elim (ltb x (length p) && ltb y (length p)) as (λ t. cond t (cond (over unranked (ranks_of p) x y) 1 0) 0 ≤ 1)
+    [ true ↦ one_at_most (over unranked (ranks_of p) x y) | false ↦ omega arith ]
 
 one_less : (a b c d : ℕ) → a + 1 ≡ c → b + 1 ≡ d → ltb a b ≡ ltb c d
 one_less a b c d e f = grind (arith, nat_tests)
@@ -37,12 +46,8 @@ unfolding count
 count_push [] p x y = omega arith
 count_push (q ∷ ps) p x y = omega (arith, count_push ps p x y)
 
-one_at_most : (b : Bool) → cond b 1 0 ≤ 1
-one_at_most true = omega arith
-one_at_most false = omega arith
-
 -- no count is above the number of ballots
-count_le : (ps : List (List ℕ)) (x y : ℕ) → count unranked ps x y ≤ length ps
+pub count_le : (ps : List (List ℕ)) (x y : ℕ) → count unranked ps x y ≤ length ps
 unfolding count
 count_le [] x y = omega arith
 count_le (q ∷ ps) x y = omega (arith, count_le ps x y, one_at_most (over unranked q x y))
@@ -55,27 +60,31 @@ pub counted_none : (v x y : ℕ) → within v (count unranked []) x y ≡ 0
 unfolding count
 counted_none v x y = elim (ltb x v && ltb y v) as (λ t. cond {A = ℕ} t 0 0 ≡ 0) [ true ↦ refl | false ↦ refl ]
 
-pub counted_le : (v i : ℕ) (bs cs : List ℕ) → Counted v (first_ballots v bs i) cs → (x y : ℕ) → x < most_candidates → y < most_candidates → cell cs x y ≤ i
-counted_le v i bs cs h x y hx hy =
+-- f of each pair is the count of the ballots, and 0 where there is no such pair
+abbrev pub CountedBy : ℕ → List (List ℕ) → (ℕ → ℕ → ℕ) → Type 0
+CountedBy v ps f = (x y : ℕ) → x < most_candidates → y < most_candidates → f x y ≡ within v (count unranked ps) x y
+
+pub counted_le : (v i : ℕ) (bs : List ℕ) (f : ℕ → ℕ → ℕ) → CountedBy v (first_ballots v bs i) f → (x y : ℕ) → x < most_candidates → y < most_candidates → f x y ≤ i
+counted_le v i bs f h x y hx hy =
     let few : within v (count unranked (first_ballots v bs i)) x y ≤ length (first_ballots v bs i) =
     elim (ltb x v && ltb y v) as (λ t. cond t (count unranked (first_ballots v bs i) x y) 0 ≤ length (first_ballots v bs i)) [ true ↦ count_le (first_ballots v bs i) x y | false ↦ omega arith ] in
     omega (arith, h x y hx hy, length-map-range_with_len (λ j. ranks_of (ballot_bytes v bs j)) 0 i)
 
--- cells to which the preferences of a ballot were added count one ballot more
-pub counted_push : (v : ℕ) (ps : List (List ℕ)) (p cs ds : List ℕ) → length p ≡ v → Counted v ps cs
-    → ((x y : ℕ) → x < most_candidates → y < most_candidates → cell ds x y ≡ cell cs x y + preference p x y)
-    → Counted v (ps ++ ranks_of p ∷ []) ds
-counted_push v ps p cs ds long h step x y hx hy =
+-- counts to which the preferences of a ballot were added count one ballot more
+pub counted_push : (v : ℕ) (ps : List (List ℕ)) (p : List ℕ) (f g : ℕ → ℕ → ℕ) → length p ≡ v → CountedBy v ps f
+    → ((x y : ℕ) → x < most_candidates → y < most_candidates → g x y ≡ f x y + preference p x y)
+    → CountedBy v (ps ++ ranks_of p ∷ []) g
+counted_push v ps p f g long h step x y hx hy =
     let push : within v (count unranked (ps ++ ranks_of p ∷ [])) x y ≡ within v (count unranked ps) x y + preference p x y =
     rw long (elim (ltb x v && ltb y v) as (λ t. cond t (count unranked (ps ++ ranks_of p ∷ []) x y) 0 ≡ cond t (count unranked ps x y) 0 + cond t (cond (over unranked (ranks_of p) x y) 1 0) 0)
     [ true ↦ count_push ps (ranks_of p) x y | false ↦ omega arith ]) in
     omega (arith, step x y hx hy, h x y hx hy, push)
 
-pub counted_more : (v i : ℕ) (bs cs ds p : List ℕ) → p ≡ ballot_bytes v bs i → length p ≡ v → Counted v (first_ballots v bs i) cs
-    → ((x y : ℕ) → x < most_candidates → y < most_candidates → cell ds x y ≡ cell cs x y + preference p x y)
-    → Counted v (first_ballots v bs (i + 1)) ds
-counted_more v i bs cs ds p e long h step =
-    rw (map-range_with_len_more (λ j. ranks_of (ballot_bytes v bs j)) 0 i i (omega arith), sym e) (counted_push v (first_ballots v bs i) p cs ds long h step)
+pub counted_more : (v i : ℕ) (bs p : List ℕ) (f g : ℕ → ℕ → ℕ) → p ≡ ballot_bytes v bs i → length p ≡ v → CountedBy v (first_ballots v bs i) f
+    → ((x y : ℕ) → x < most_candidates → y < most_candidates → g x y ≡ f x y + preference p x y)
+    → CountedBy v (first_ballots v bs (i + 1)) g
+counted_more v i bs p f g e long h step =
+    rw (map-range_with_len_more (λ j. ranks_of (ballot_bytes v bs j)) 0 i i (omega arith), sym e) (counted_push v (first_ballots v bs i) p f g long h step)
 
 -- as many ballots, each putting u over v exactly if the other puts x over y, give the same count
 pub count_same :

@@ -1,5 +1,6 @@
 pub mod Counts
 pub mod Grids
 pub mod Tables
+pub mod Counters
 pub mod Additions
 pub mod Laws

@@ -1,7 +1,7 @@
 // What one ballot adds to the counts.
 ghost use Rattle.std.specs.Prelude.{◌≡◌, ℕ, ◌+◌, ◌<◌, ◌≤◌, length, slice_index};
 ghost use Rattle.ballots.specs.Format.{most_candidates, rank_of};
-ghost use Rattle.pairwise.specs.Grids.{cell};
+ghost use Rattle.pairwise.specs.Grids.{cell, cells};
 ghost use Rattle.pairwise.specs.Tables.{preference};
 
 use crate::CELLS;
@@ -21,17 +21,28 @@ fn keys_of(ballot: &[u8]) -> [u8; MOST_CANDIDATES]
     keys
 }
 
-// Adds one to the count of each pair whose first candidate the ballot puts over the second. By their places, as the keys
-// are made: of what is written through `iter_mut` and its adapters a proof knows nothing.
-pub(crate) fn add_ballot(counts: &mut [u16; CELLS], ballot: &[u8])
+// Adds one to the count of each pair whose first candidate the ballot puts over the second: in bytes, of which a register
+// holds more than of wider numbers. By their places, as the keys are made: of what is written through `iter_mut` and its
+// adapters a proof knows nothing.
+pub(crate) fn add_ballot(recent: &mut [u8; CELLS], ballot: &[u8])
     requires few { length ballot.now ≤ most_candidates }
-    requires room { (x y : ℕ) → x < most_candidates → y < most_candidates → cell counts.old x y < 65535 }
-    ensures { (x y : ℕ) → x < most_candidates → y < most_candidates → cell counts.new x y ≡ cell counts.old x y + preference ballot.now x y }
+    requires room { (x y : ℕ) → x < most_candidates → y < most_candidates → cell recent.old x y < 255 }
+    ensures { (x y : ℕ) → x < most_candidates → y < most_candidates → cell recent.new x y ≡ cell recent.old x y + preference ballot.now x y }
 {
     let keys = keys_of(ballot);
     for (x, key) in keys[..ballot.len()].iter().enumerate() {
         for (y, other) in keys.iter().enumerate() {
-            counts[x * MOST_CANDIDATES + y] += u16::from(key < other);
+            recent[x * MOST_CANDIDATES + y] += u8::from(key < other);
         }
+    }
+}
+
+// Adds the counts of the last ballots to those of the ballots before.
+pub(crate) fn add_recent(counts: &mut [u16; CELLS], recent: &[u8; CELLS])
+    requires room { (k : ℕ) → k < cells → slice_index counts.old k + slice_index recent.now k ≤ 65535 }
+    ensures { (k : ℕ) → k < cells → slice_index counts.new k ≡ slice_index counts.old k + slice_index recent.now k }
+{
+    for (i, more) in recent.iter().enumerate() {
+        counts[i] += u16::from(*more);
     }
 }

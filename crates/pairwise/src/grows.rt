@@ -1,7 +1,7 @@
 // Counts that grow by one ballot after the other.
 ghost use Rattle.pairwise.specs.Additions.{Emptied, Added};
 
-use crate::adds::add_ballot;
+use crate::adds::{add_ballot, add_recent};
 use crate::{CELLS, Grid, Pairwise};
 use ballots::{MOST_CANDIDATES, Refusal};
 
@@ -35,7 +35,9 @@ impl Pairwise {
                 at: self.counts.candidates,
             });
         }
-        add_ballot(&mut self.counts.cells, ballot);
+        let mut one = [0u8; CELLS];
+        add_ballot(&mut one, ballot);
+        add_recent(&mut self.counts.cells, &one);
         self.ballots += 1;
         Ok(())
     }

@@ -5,6 +5,7 @@ ghost use Rattle.pairwise.specs.Grids.{Bounded};
 
 mod adds;
 mod copies;
+mod counter;
 mod grid;
 mod grows;
 pub mod laws;

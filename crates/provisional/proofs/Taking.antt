@@ -12,6 +12,7 @@ use Rattle.ballots.proofs.Files.{votes_accepted}
 use Rattle.ballots.proofs.Lending.{answered_ok}
 use Rattle.pairwise.specs.declared.Pairwise.{Pairwise}
 use Rattle.pairwise.specs.Additions.{most_ballots, add_refusal, OneMore, After, Added}
+use Rattle.pairwise.specs.Grids.{cell}
 use Rattle.pairwise.specs.Tables.{win_in, PairwiseOf}
 use Rattle.pairwise.proofs.Order.{count_shuffled}
 use Rattle.pairwise.proofs.Preferences.{counted_push}
@@ -34,7 +35,7 @@ taken_more c d v ps p room wide more t =
       };
       ballots = omega (arith, more.ballots, t.ballots);
       candidates = more.candidates ∙ t.candidates;
-      counts = rw (map_push ranks_of ps p) (counted_push v (map ranks_of ps) p c.pairwise.counts.cells d.pairwise.counts.cells (wide ∙ t.candidates) t.counts more.counts);
+      counts = rw (map_push ranks_of ps p) (counted_push v (map ranks_of ps) p (cell c.pairwise.counts.cells) (cell d.pairwise.counts.cells) (wide ∙ t.candidates) t.counts more.counts);
     }
 
 -- a ballot that is not refused has a byte for each candidate, and there is room for it

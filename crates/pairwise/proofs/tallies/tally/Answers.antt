@@ -1,10 +1,10 @@
-use Rattle.std.proofs.Common.{◌≡◌, ◌+◌, ◌*◌, length, sym, ap, ◌∙◌, arith}
+use Rattle.std.proofs.Common.{◌≡◌, length, sym, ap, ◌∙◌, arith}
 use Rattle.std.proofs.lemmas.List.{length_push}
-use Rattle.ballots.specs.Format.{most_candidates, candidates_in, ballots_in}
+use Rattle.ballots.specs.Format.{candidates_in, ballots_in}
 use Rattle.ballots.specs.Reading.{ballots_from, to_come}
 use Rattle.ballots.proofs.Files.{accepted}
 use Rattle.ballots.proofs.Reading.{next_is, none_left, ballot_long}
-use Rattle.pairwise.proofs.Cells.{zeros}
+use Rattle.pairwise.specs.Counters.{counted_by}
 use Rattle.pairwise.proofs.Preferences.{counted_none, counted_le, counted_more}
 use Rattle.pairwise.proofs.tallies.tally.Goals as goal
 
@@ -12,11 +12,11 @@ pub loop-ballot-init : goal.loop-ballot-init
 loop-ballot-init c = record {
   few = omega arith;
   left = ap to_come c.into_iter-ballot-iterator.ensures.into_iter_gives ∙ c.iter-ballots.ensures ∙ ap (λ bs. ballots_from bs 0) c.in_ok-file.ensures.bytes;
-  counts = λ x y h k. zeros (most_candidates * most_candidates) (x * most_candidates + y) ∙ sym (counted_none (candidates_in c.args.bytes.now) x y);
+  counts = λ x y h k. c.new-counter.ensures x y ∙ sym (counted_none (candidates_in c.args.bytes.now) x y);
 }
 
-pub add_ballot-requires : goal.add_ballot-requires
-add_ballot-requires c =
+pub add-requires : goal.add-requires
+add-requires c =
     let n = next_is c.args.bytes.now (length c.loop-ballot.yielded) c.in-Some.ballot.now (to_come c.next.new.self) (sym c.loop-ballot.invariant.left ∙ c.in-Some.ensures.steps) in
     let long = ap length n.bytes ∙ ballot_long c.args.bytes.now (length c.loop-ballot.yielded) (accepted c.args.bytes.now c.in_ok-file.ensures.accepted).2 n.there in
     record {
@@ -26,7 +26,7 @@ add_ballot-requires c =
             arith,
             n.there,
             c.in_ok-file.ensures.ballots,
-            counted_le (candidates_in c.args.bytes.now) (length c.loop-ballot.yielded) c.args.bytes.now c.loop-ballot.cells c.loop-ballot.invariant.counts x y h k,
+            counted_le (candidates_in c.args.bytes.now) (length c.loop-ballot.yielded) c.args.bytes.now (counted_by c.loop-ballot.counter) c.loop-ballot.invariant.counts x y h k,
           );
     }
 
@@ -38,8 +38,8 @@ loop-ballot-preserved c =
     record {
       few = omega (arith, more, n.there);
       left = rw more n.others;
-      counts = rw more (counted_more (candidates_in c.args.bytes.now) (length c.loop-ballot.yielded) c.args.bytes.now c.loop-ballot.cells c.add_ballot.new.counts
-          c.in-Some.ballot.now n.bytes long c.loop-ballot.invariant.counts c.add_ballot.ensures);
+      counts = rw more (counted_more (candidates_in c.args.bytes.now) (length c.loop-ballot.yielded) c.args.bytes.now c.in-Some.ballot.now
+          (counted_by c.loop-ballot.counter) (counted_by c.add.new.self) n.bytes long c.loop-ballot.invariant.counts c.add.ensures);
     }
 
 pub invariant_of-result-2 : goal.invariant_of-result-2
@@ -48,7 +48,8 @@ invariant_of-result-2 c = record {
     arith,
     c.in_ok-file.ensures.ballots,
     c.loop-ballot.invariant.few,
-    counted_le (candidates_in c.args.bytes.now) (length c.loop-ballot.yielded) c.args.bytes.now c.loop-ballot.cells c.loop-ballot.invariant.counts x y h.0 h.1,
+    counted_le (candidates_in c.args.bytes.now) (length c.loop-ballot.yielded) c.args.bytes.now (counted_by c.loop-ballot.counter) c.loop-ballot.invariant.counts x y h.0 h.1,
+    c.settle.ensures.counts x y h.0 h.1,
   );
 }
 
@@ -61,5 +62,5 @@ returns c =
       accepted = h.accepted;
       ballots = h.ballots;
       candidates = h.candidates;
-      counts = rw all at c.loop-ballot.invariant.counts;
+      counts = λ x y p q. c.settle.ensures.counts x y p q ∙ rw all at c.loop-ballot.invariant.counts x y p q;
     }

@@ -1,0 +1,53 @@
+use Rattle.std.proofs.Common.{◌≡◌, ◌+◌, ◌*◌, None, refl, arith}
+use Rattle.std.proofs.lemmas.Bool.Decides.{nat_tests}
+use Rattle.ballots.specs.Format.{most_candidates}
+use Rattle.pairwise.specs.Additions.{add_refusal}
+use Rattle.pairwise.specs.Grids.{cells}
+use Rattle.pairwise.proofs.Cells.{zeros, room_by_pairs}
+use Rattle.pairwise.proofs.Preferences.{preference_le}
+use Rattle.pairwise.proofs.Pairwise.add.Goals as goal
+
+pub add_ballot-requires-clause-room : goal.add_ballot-requires-clause-room
+add_ballot-requires-clause-room c = λ x y h k. omega (arith, zeros cells (x * most_candidates + y))
+
+pub add_recent-requires : goal.add_recent-requires
+add_recent-requires c = record {
+  room = room_by_pairs 65535 c.args.self.now.counts.cells c.add_ballot.new.recent (λ x y h. omega (
+    arith,
+    c.if-self.false,
+    c.args.self.now.bounded x y h,
+    c.add_ballot.ensures x y h.0 h.1,
+    preference_le c.args.ballot.now x y,
+    zeros cells (x * most_candidates + y),
+  ));
+}
+
+pub invariant_of-self-2 : goal.invariant_of-self-2
+invariant_of-self-2 c = record {
+  bounded = λ x y h. omega (
+    arith,
+    c.args.self.now.bounded x y h,
+    c.add_recent.ensures (x * most_candidates + y) (omega (arith, h.0, h.1)),
+    c.add_ballot.ensures x y h.0 h.1,
+    preference_le c.args.ballot.now x y,
+    zeros cells (x * most_candidates + y),
+  );
+}
+
+pub returns : goal.returns
+returns c =
+    let none : add_refusal c.args.self.now c.args.ballot.now ≡ None =
+    grind (arith, nat_tests, c.if-self.false, c.if-ballot-self.false, c.if-ballot-self-2.false) in
+    record {
+      answer = rw none refl;
+      after = rw none (record {
+        ballots = refl;
+        candidates = refl;
+        counts = λ x y h k. omega (
+          arith,
+          c.add_recent.ensures (x * most_candidates + y) (omega arith),
+          c.add_ballot.ensures x y h k,
+          zeros cells (x * most_candidates + y),
+        );
+      });
+    }
