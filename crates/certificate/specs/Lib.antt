@@ -5,3 +5,4 @@ pub mod Truth
 pub mod Certified
 pub mod Parts
 pub mod Progress
+pub mod Laws

@@ -9,6 +9,7 @@ mod certifies;
 mod checks;
 mod claims;
 mod entries;
+pub mod laws;
 mod reads;
 mod tables;
 mod writes;
