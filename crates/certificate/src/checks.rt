@@ -12,13 +12,13 @@ use crate::tables::check_table;
 use ballots::Refusal;
 use pairwise::{Pairwise, tally};
 
-// Whether a certificate is right for a table, or the first refusal in it, front to back.
-fn check_against(table: &Pairwise, sheet: &[u8]) -> Result<(), Refusal>
-    ensures { result ≡ answered (unmet (demands_in table.now sheet.now)) tt }
+// Whether a certificate is right for pairwise counts, or the first refusal in it, front to back.
+fn check_against(pairwise: &Pairwise, sheet: &[u8]) -> Result<(), Refusal>
+    ensures { result ≡ answered (unmet (demands_in pairwise.now sheet.now)) tt }
 {
     let mut reader = Reader::new(sheet);
-    check_table(table, &mut reader)?;
-    let strengths = check_entries(table, &mut reader)?;
+    check_table(pairwise, &mut reader)?;
+    let strengths = check_entries(pairwise, &mut reader)?;
     check_best(&mut reader, &strengths)
 }
 
@@ -30,6 +30,6 @@ pub fn check(bytes: &[u8], sheet: &[u8]) -> Result<(), Refusal>
     ensures truth { result ≡ Ok tt → TrueTo bytes.now sheet.now }
     ensures exact { (result ≡ Ok tt) ↔ AsSaid bytes.now sheet.now }
 {
-    let table = tally(bytes)?;
-    check_against(&table, sheet)
+    let pairwise = tally(bytes)?;
+    check_against(&pairwise, sheet)
 }

@@ -11,22 +11,22 @@ use pairwise::{CELLS, Grid, Pairwise};
 
 // Reads the entry of the pair x, y, and answers the strength in it.
 #[tactic(auto, using(std::proofs::lemmas::Bool::Decides::nat_tests, crate::proofs::Places::place_next), unfolding(crate::specs::Judge::entry_demands))]
-fn check_entry(table: &Pairwise, reader: &mut Reader, x: usize, y: usize) -> Result<u16, Refusal>
-    requires pair { (x < table.now.counts.candidates) × ((y < table.now.counts.candidates) × (x ≢ y)) }
-    requires here { AtEntry table.now x y reader.old }
-    ensures { ReadsEntry table.now x y reader.old reader.new result }
+fn check_entry(pairwise: &Pairwise, reader: &mut Reader, x: usize, y: usize) -> Result<u16, Refusal>
+    requires pair { (x < pairwise.now.counts.candidates) × ((y < pairwise.now.counts.candidates) × (x ≢ y)) }
+    requires here { AtEntry pairwise.now x y reader.old }
+    ensures { ReadsEntry pairwise.now x y reader.old reader.new result }
 {
     let strength = reader.number()?;
     let count = reader.byte()?;
     let path = reader.take(usize::from(count))?;
-    if !is_path(table, path, x, y, strength) {
+    if !is_path(pairwise, path, x, y, strength) {
         return Err(Refusal::Path {
             from: x as u8,
             to: y as u8,
         });
     }
     let cut = reader.set()?;
-    if !is_cut(table, cut, x, y, strength) {
+    if !is_cut(pairwise, cut, x, y, strength) {
         return Err(Refusal::Cut {
             from: x as u8,
             to: y as u8,
@@ -36,27 +36,27 @@ fn check_entry(table: &Pairwise, reader: &mut Reader, x: usize, y: usize) -> Res
 }
 
 // The same for any pair: a candidate has no entry with itself, and the strength 0.
-fn check_claim(table: &Pairwise, reader: &mut Reader, x: usize, y: usize) -> Result<u16, Refusal>
-    requires pair { (x < table.now.counts.candidates) × (y < table.now.counts.candidates) }
-    requires here { AtEntry table.now x y reader.old }
-    ensures { ReadsClaim table.now x y reader.old reader.new result }
+fn check_claim(pairwise: &Pairwise, reader: &mut Reader, x: usize, y: usize) -> Result<u16, Refusal>
+    requires pair { (x < pairwise.now.counts.candidates) × (y < pairwise.now.counts.candidates) }
+    requires here { AtEntry pairwise.now x y reader.old }
+    ensures { ReadsClaim pairwise.now x y reader.old reader.new result }
 {
     if x == y {
         return Ok(0);
     }
-    check_entry(table, reader, x, y)
+    check_entry(pairwise, reader, x, y)
 }
 
 // Reads the entries of all pairs, and answers the strengths in them. Two plain `for`s: the reader goes on at each pair.
-pub(crate) fn check_entries(table: &Pairwise, reader: &mut Reader) -> Result<Grid, Refusal>
-    requires { AtEntry table.now 0 0 reader.old }
-    ensures { ReadsEntries table.now reader.old reader.new result }
+pub(crate) fn check_entries(pairwise: &Pairwise, reader: &mut Reader) -> Result<Grid, Refusal>
+    requires { AtEntry pairwise.now 0 0 reader.old }
+    ensures { ReadsEntries pairwise.now reader.old reader.new result }
 {
-    let candidates = table.counts.candidates;
+    let candidates = pairwise.counts.candidates;
     let mut cells = [0; CELLS];
     for x in 0..candidates {
         for y in 0..candidates {
-            cells[x * MOST_CANDIDATES + y] = check_claim(table, reader, x, y)?;
+            cells[x * MOST_CANDIDATES + y] = check_claim(pairwise, reader, x, y)?;
         }
     }
     Ok(Grid { candidates, cells })

@@ -3,8 +3,8 @@ ghost use Rattle.std.specs.Prelude.{◌≤◌, length};
 
 use ballots::Refusal;
 
-// A certificate, and how far it is read. The table that it is checked against is passed beside it: in here, each contract
-// would have to say that the table stays.
+// A certificate, and how far it is read. The counts that it is checked against are passed beside it: in here, each contract
+// would have to say that they stay.
 #[derive(Drop)]
 pub(crate) struct Reader<'a> {
     pub sheet: &'a [u8],

@@ -26,15 +26,15 @@ fn check_number(reader: &mut Reader, number: u16) -> Result<(), Refusal>
     check_byte(reader, high)
 }
 
-// Reads the number of candidates and the table, which have to be those of the table that is given. Two plain `for`s: the
+// Reads the number of candidates and the table, which have to be those of the counts. Two plain `for`s: the
 // reader goes on at each pair.
-pub(crate) fn check_table(table: &Pairwise, reader: &mut Reader) -> Result<(), Refusal>
-    ensures { Passes (front_bytes table.now) reader.old reader.new result }
+pub(crate) fn check_table(pairwise: &Pairwise, reader: &mut Reader) -> Result<(), Refusal>
+    ensures { Passes (front_bytes pairwise.now) reader.old reader.new result }
 {
-    check_byte(reader, table.counts.candidates as u8)?;
-    for x in 0..table.counts.candidates {
-        for y in 0..table.counts.candidates {
-            check_number(reader, table.preferring(x, y))?;
+    check_byte(reader, pairwise.counts.candidates as u8)?;
+    for x in 0..pairwise.counts.candidates {
+        for y in 0..pairwise.counts.candidates {
+            check_number(reader, pairwise.preferring(x, y))?;
         }
     }
     Ok(())

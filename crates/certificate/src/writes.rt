@@ -30,14 +30,14 @@ impl Writer<'_> {
 }
 
 // Writes the number of candidates and the table. Two plain `for`s, as for the entries: the writer goes on at each pair.
-fn write_table(table: &Pairwise, writer: &mut Writer)
-    requires { HasRoom (front_bytes table.now) writer.old }
-    ensures { Put (front_bytes table.now) writer.old writer.new }
+fn write_table(pairwise: &Pairwise, writer: &mut Writer)
+    requires { HasRoom (front_bytes pairwise.now) writer.old }
+    ensures { Put (front_bytes pairwise.now) writer.old writer.new }
 {
-    writer.put(&[table.counts.candidates as u8]);
-    for x in 0..table.counts.candidates {
-        for y in 0..table.counts.candidates {
-            writer.put(&table.preferring(x, y).to_le_bytes());
+    writer.put(&[pairwise.counts.candidates as u8]);
+    for x in 0..pairwise.counts.candidates {
+        for y in 0..pairwise.counts.candidates {
+            writer.put(&pairwise.preferring(x, y).to_le_bytes());
         }
     }
 }

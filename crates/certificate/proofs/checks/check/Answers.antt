@@ -6,7 +6,7 @@ use Rattle.certificate.proofs.checks.check.Goals as goal
 
 pub returns : goal.returns
 returns c =
-    let v = c.check_against.ensures ∙ ap (λ o. answered o tt) (judged _ _ _ c.in_ok-table.ensures) in
+    let v = c.check_against.ensures ∙ ap (λ o. answered o tt) (judged _ _ _ c.in_ok-pairwise.ensures) in
     record {
       verdict = v;
       truth = λ h. accepted_true _ _ (answered_ok _ _ _ (sym v ∙ h)).0;

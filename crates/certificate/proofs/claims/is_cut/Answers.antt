@@ -10,7 +10,7 @@ use Rattle.certificate.proofs.claims.is_cut.Goals.{then-set-candidates-eq0, else
 
 pub returns-then-not-holds : goal.returns-then-not-holds
 returns-then-not-holds c =
-    let t = c.args.table.now in
+    let t = c.args.pairwise.now in
     let k : c.all.result ≡ every (calm (win_in t) c.args.strength c.args.set t.counts.candidates) t.counts.candidates =
     every_from_all (calm (win_in t) c.args.strength c.args.set t.counts.candidates) _ c.all.ensures.ran (λ x b q k. search (rules, tests)) in
     rw (is_cut_shifted, ← k)

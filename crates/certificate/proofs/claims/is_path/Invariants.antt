@@ -4,5 +4,5 @@ use Rattle.certificate.proofs.claims.is_path.Given as goal
 
 abbrev pub invariant-loop-next : goal.invariant-loop-next
 invariant-loop-next l =
-    Followed (win_in l.table) l.table.counts.candidates l.y l.strength (none_beyond l.table)
+    Followed (win_in l.pairwise) l.pairwise.counts.candidates l.y l.strength (none_beyond l.pairwise)
     l.x 65535 l.row l.rest l.next-index l.last l.weakest

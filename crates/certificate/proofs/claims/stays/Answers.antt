@@ -7,5 +7,5 @@ use Rattle.certificate.proofs.claims.stays.Goals as goal
 
 pub returns : goal.returns
 returns c =
-    every_from_all (λ b. not (crosses (win_in c.args.table.now) c.args.strength c.args.set c.args.a b)) _ c.all.ensures.ran
+    every_from_all (λ b. not (crosses (win_in c.args.pairwise.now) c.args.strength c.args.set c.args.a b)) _ c.all.ensures.ran
     (λ x b q k. search (rules, tests))

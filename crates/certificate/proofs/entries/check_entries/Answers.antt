@@ -22,7 +22,7 @@ loop-x-init c =
 
 pub returns-in_err-cells : goal.returns-in_err-cells
 returns-in_err-cells c =
-    let t = c.args.table.now in
+    let t = c.args.pairwise.now in
     let p = err_from_is_err_and c.from_residual.result c.from_residual.ensures.1 in
     record {
       moved = rw (p.1, p.2) (pair_refused t.counts.candidates (demanded t) (place t.counts.candidates) _ _ _ c.loop-x-test.true c.loop-y-test.true
@@ -32,7 +32,7 @@ returns-in_err-cells c =
 
 pub loop-y-preserved : goal.loop-y-preserved
 loop-y-preserved c =
-    let t = c.args.table.now in
+    let t = c.args.pairwise.now in
     record {
       moved = pair_moved t.counts.candidates (demanded t) (place t.counts.candidates) _ _ c.loop-y.invariant.moved c.in_ok-cells.ensures.moved;
       size = length-set _ _ _ ∙ c.loop-y.invariant.size;
@@ -41,7 +41,7 @@ loop-y-preserved c =
 
 pub loop-x-preserved : goal.loop-x-preserved
 loop-x-preserved c =
-    let t = c.args.table.now in
+    let t = c.args.pairwise.now in
     record {
       moved = row_moved t.counts.candidates (demanded t) (place t.counts.candidates) _ _ (omega arith) (place_row _ _ _) c.loop-y.invariant.moved;
       size = c.loop-y.invariant.size;

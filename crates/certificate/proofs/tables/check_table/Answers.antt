@@ -12,12 +12,12 @@ count_bytes t x y = two_bytes (entry t.counts x y)
 pub returns-in_err-check_number : goal.returns-in_err-check_number
 returns-in_err-check_number c =
     let p = err_from_is_err_and c.from_residual-in_err-check_number.result c.from_residual-in_err-check_number.ensures.1 in
-    rw (p.1, p.2) (pair_stopped _ (count_bytes c.args.table.now) _ _ c.loop-x-test.true c.loop-y-test.true
+    rw (p.1, p.2) (pair_stopped _ (count_bytes c.args.pairwise.now) _ _ c.loop-x-test.true c.loop-y-test.true
     (ap two_bytes c.preferring.ensures) c.loop-y.invariant c.in_err-check_number.ensures)
 
 pub loop-y-preserved : goal.loop-y-preserved
 loop-y-preserved c =
-    passed_pair _ (count_bytes c.args.table.now) _ _ (ap two_bytes c.preferring.ensures) c.loop-y.invariant c.in_ok-check_number.ensures
+    passed_pair _ (count_bytes c.args.pairwise.now) _ _ (ap two_bytes c.preferring.ensures) c.loop-y.invariant c.in_ok-check_number.ensures
 
 pub loop-x-preserved : goal.loop-x-preserved
-loop-x-preserved c = row_passed _ (count_bytes c.args.table.now) _ _ (omega arith) c.loop-y.invariant
+loop-x-preserved c = row_passed _ (count_bytes c.args.pairwise.now) _ _ (omega arith) c.loop-y.invariant

@@ -13,15 +13,15 @@ part t x y = two_bytes (entry t.counts x y)
 
 pub put-requires-in-loop-y : goal.put-requires-in-loop-y
 put-requires-in-loop-y c =
-    let t = c.args.table.now in
+    let t = c.args.pairwise.now in
     let fits = pair_fits (head t) t.counts.candidates (part t) _ _ c.loop-x-test.true c.loop-y-test.true c.requires c.loop-y.invariant in
     omega (arith, fits, ap length c.to_le_bytes.ensures)
 
 pub loop-y-preserved : goal.loop-y-preserved
 loop-y-preserved c =
-    let t = c.args.table.now in
+    let t = c.args.pairwise.now in
     pair_put (head t) t.counts.candidates (part t) _ _ c.loop-x-test.true c.loop-y-test.true c.requires c.loop-y.invariant
     (put_as (c.to_le_bytes.ensures ∙ ap two_bytes c.preferring.ensures) c.put-in-loop-y.ensures)
 
 pub loop-x-preserved : goal.loop-x-preserved
-loop-x-preserved c = let t = c.args.table.now in row_put (head t) t.counts.candidates (part t) _ _ (omega arith) c.loop-y.invariant
+loop-x-preserved c = let t = c.args.pairwise.now in row_put (head t) t.counts.candidates (part t) _ _ (omega arith) c.loop-y.invariant
