@@ -7,16 +7,17 @@ use Rattle.pairwise.specs.Tables.{win_in}
 use Rattle.paths.specs.Paths.{below, Strongest, pair}
 use Rattle.paths.specs.Rows.{ShowsStrongest, row}
 use Rattle.paths.specs.Cuts.{Cut, cut}
-use Rattle.paths.specs.Strengths.{strength_in}
+use Rattle.paths.specs.Strengths.{strength_in, Strong}
 
 -- s is the strength from x to y: that of the strongest path where they are two different candidates, else 0
 pub record StrengthOf (t : Pairwise) (x y s : ℕ) : Type 0 where
   pub is : s ≡ strength_in t x y
   pub strongest : pair t.counts.candidates x y ≡ true → Strongest (win_in t) t.counts.candidates x y s
 
--- the grid has the strength of each pair
+-- the grid has the strength of each pair, and 0 in every other cell
 pub record GridOf (t : Pairwise) (g : Grid) : Type 0 where
   pub candidates : g.candidates ≡ t.counts.candidates
+  pub cells : Strong t g.cells
   pub each : entry g ≡ strength_in t
 
 -- the set is the cut of x and y: no win that is stronger than the strength leaves it where they are two different candidates, else it is empty
