@@ -25,7 +25,7 @@ pub struct BallotFile<'a> {
 }
 
 // The ballots of a file that are still to come.
-#[derive(Clone, Copy)]
+#[derive(Clone, Drop)]
 pub struct Ballots<'a> {
     pub(crate) file: BallotFile<'a>,
     pub(crate) next: usize,
