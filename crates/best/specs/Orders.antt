@@ -28,7 +28,7 @@ pub record IsTieBreak (before : ℕ → ℕ → Bool) : Type 0 where
   pub one_way : (x y : ℕ) → before x y ≡ true → before y x ≢ true
   pub transitive : (x y z : ℕ) → before x y ≡ true → before y z ≡ true → before x z ≡ true
 
--- there is one full order
+-- there is at most one full order
 abbrev pub OneOrder : Type 0
 OneOrder =
     (w : ℕ → ℕ → ℕ) (n : ℕ) (before : ℕ → ℕ → Bool) (xs ys : List ℕ) → IsTieBreak before →

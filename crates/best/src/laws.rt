@@ -76,7 +76,7 @@ pub fn clone_independence_holds()
     ensures ballots { Elections.CloneIndependence }
 {}
 
-// There is one full order; its first candidate is among the best, and whoever is ahead of another stands before it.
+// There is at most one full order; its first candidate is among the best, and whoever is ahead of another stands before it.
 pub fn full_order_holds()
     ensures one { Orders.OneOrder }
     ensures first { Orders.FirstIsBest }
