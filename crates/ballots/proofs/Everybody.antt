@@ -1,7 +1,6 @@
 -- Tests of all candidates: what they say of each, and how a loop finds it.
-use Rattle.std.proofs.Common.{◌≡◌, ℕ, zero, suc, ◌+◌, ◌<◌, ◌≤◌, Bool, true, false, refl, inl, inr, add-one, arith}
+use Rattle.std.proofs.Common.{◌≡◌, ℕ, zero, suc, ◌+◌, ◌<◌, ◌≤◌, Bool, true, false, refl, inl, inr, arith}
 use Rattle.std.proofs.lemmas.Bool.{cases_eq, cases_Bool, and_parts, and_from}
-use Rattle.std.proofs.lemmas.Bool.Decides.{nat_tests}
 use Rattle.ballots.specs.Sets.{every, number}
 
 pub every_at : (f : ℕ → Bool) (n x : ℕ) → every f n ≡ true → x < n → f x ≡ true
@@ -15,20 +14,9 @@ pub every_all : (f : ℕ → Bool) (n : ℕ) → ((x : ℕ) → x < n → f x �
 every_all f zero h = refl
 every_all f (suc n) h = and_from _ _ (h n (omega arith)) (every_all f n (λ x l. h x (omega arith)))
 
-pub every_not : (f : ℕ → Bool) (n x : ℕ) → x < n → f x ≡ false → every f n ≡ false
-every_not f zero x l h = absurd (let z : ⊥ = omega arith in z)
-every_not f (suc n) x l h = elim (cases_eq x n) [
-  | inl e ↦ let k : f n ≡ false = rw e at h in rw k
-  | inr e ↦ let k = every_not f n x (omega arith) h in grind (arith, nat_tests)
-]
-
 pub every_same : (f g : ℕ → Bool) (n : ℕ) → ((x : ℕ) → x < n → f x ≡ g x) → every f n ≡ every g n
 every_same f g zero h = refl
 every_same f g (suc n) h = let e = h n (omega arith) in let t = every_same f g n (λ x l. h x (omega arith)) in rw (e, t)
-
--- one more that passes
-pub every_more : (f : ℕ → Bool) (n : ℕ) → every f n ≡ true → f n ≡ true → every f (n + 1) ≡ true
-every_more f n h p = rw add-one (and_from _ _ p h)
 
 -- how many pass
 pub number_same : (f g : ℕ → Bool) (n : ℕ) → ((x : ℕ) → x < n → f x ≡ g x) → number f n ≡ number g n
@@ -76,15 +64,3 @@ number_lt f g (suc n) a h l p q = elim (cases_eq a n) [
         | inr fn ↦ rw fn (omega arith)
       ]
 ]
-
-pub number_few : (f : ℕ → Bool) (n : ℕ) → number f n ≤ n
-number_few f zero = omega arith
-number_few f (suc n) =
-    let i = number_few f n in elim (cases_Bool (f n)) [ inl e ↦ rw e (omega arith) | inr e ↦ rw e (omega arith) ]
-
--- one more that passes, and one that does not
-pub number_takes : (f : ℕ → Bool) (n : ℕ) → f n ≡ true → number f (n + 1) ≡ 1 + number f n
-number_takes f n h = rw (add-one, h)
-
-pub number_passes : (f : ℕ → Bool) (n : ℕ) → f n ≡ false → number f (n + 1) ≡ number f n
-number_passes f n h = rw (add-one, h) (omega arith)

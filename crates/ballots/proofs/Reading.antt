@@ -7,11 +7,11 @@ use Rattle.ballots.specs.Reading.{ballots_from}
 use Rattle.ballots.proofs.Products.{row_ends}
 
 -- the next one, and those behind it
-pub from_next : (bs : List ℕ) (i : ℕ) → i < ballots_in bs → ballots_from bs i ≡ ballot_bytes (candidates_in bs) bs i ∷ ballots_from bs (i + 1)
+from_next : (bs : List ℕ) (i : ℕ) → i < ballots_in bs → ballots_from bs i ≡ ballot_bytes (candidates_in bs) bs i ∷ ballots_from bs (i + 1)
 from_next bs i h = let e : ballots_in bs - i ≡ suc (ballots_in bs - (i + 1)) = omega arith in rw e
 
 -- none is left
-pub from_end : (bs : List ℕ) (i : ℕ) → ballots_in bs ≤ i → ballots_from bs i ≡ []
+from_end : (bs : List ℕ) (i : ℕ) → ballots_in bs ≤ i → ballots_from bs i ≡ []
 from_end bs i h = let e : ballots_in bs - i ≡ 0 = omega arith in rw e
 
 pub none_left : (bs : List ℕ) (i : ℕ) → ballots_from bs i ≡ [] → ballots_in bs ≤ i

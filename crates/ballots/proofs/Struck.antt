@@ -2,13 +2,14 @@
 use Rattle.std.proofs.Common.{◌≡◌, ℕ, ◌+◌, ◌*◌, ◌<◌, Bool, List, [], ◌∷◌, length, get_or, sym, refl, ap, ◌∙◌, arith}
 use Rattle.std.specs.List.{range_with_len, flat_map}
 use Rattle.std.proofs.lemmas.List.FromFn.{length-map-range_with_len, get_or-map-range_with_len}
-use Rattle.std.proofs.lemmas.List.{length-map, length-take, length-drop, get_or-map, drop-drop}
-use Rattle.ballots.specs.Format.{unranked, header_length, candidates_in, ballots_in, whole_length, ballot_bytes, rank_of, ranks_of, ballots_of}
+use Rattle.std.proofs.lemmas.List.{length-map, get_or-map, drop-drop}
+use Rattle.ballots.specs.Format.{unranked, header_length, candidates_in, ballots_in, ballot_bytes, rank_of, ranks_of, ballots_of}
 use Rattle.ballots.specs.Laws.{StrikeKeepsRanks}
 use Rattle.ballots.specs.Strikes.{kept, ranks_at, struck}
 use Rattle.ballots.proofs.Files.{accept, accepted}
 use Rattle.ballots.proofs.Kept.{number_le, number_lt, at_number}
-use Rattle.ballots.proofs.Products.{row_ends, length_joined, row_at}
+use Rattle.ballots.proofs.Products.{length_joined, row_at}
+use Rattle.ballots.proofs.Reading.{ballot_long}
 
 -- the ballots of a file
 pub length_ballots : (bs : List ℕ) → length (ballots_of bs) ≡ ballots_in bs
@@ -16,9 +17,6 @@ length_ballots bs = length-map-range_with_len (λ j. ranks_of (ballot_bytes (can
 
 ballot_at : (bs : List ℕ) (i : ℕ) → i < ballots_in bs → get_or (ballots_of bs) i [] ≡ ranks_of (ballot_bytes (candidates_in bs) bs i)
 ballot_at bs i h = get_or-map-range_with_len (λ j. ranks_of (ballot_bytes (candidates_in bs) bs j)) 0 (ballots_in bs) i i [] h (omega arith)
-
-length_ballot : (bs : List ℕ) (i : ℕ) → length bs ≡ whole_length bs → i < ballots_in bs → length (ballot_bytes (candidates_in bs) bs i) ≡ candidates_in bs
-length_ballot bs i whole h = simp (length-take, length-drop) (omega (arith, row_ends i (ballots_in bs) (candidates_in bs) h))
 
 -- the rank at place i of the ranks of some candidates
 rank_at :
@@ -77,6 +75,6 @@ strike_keeps_ranks keep bs a none av ka =
       ranks = λ i x h xv kx.
           let e = at_number keep x v xv kx in
           let at = rank_at (ballot_bytes v bs i) (kept keep v) (length (kept keep x)) (number_lt keep x v xv kx)
-          (rw (e, length_ballot bs i whole h) xv) in
+          (rw (e, ballot_long bs i whole h) xv) in
           rw (ballot_at (struck keep bs) i (rw n h), struck_ballot keep bs i h, ballot_at bs i h) (rw e at at);
     }

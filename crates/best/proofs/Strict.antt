@@ -6,7 +6,7 @@ use Rattle.best.specs.Best.{Ahead}
 use Rattle.best.specs.Laws.{AheadIsAnOrder, ReversalSymmetry}
 
 -- by the weaker of the two paths
-pub ahead_trans :
+ahead_trans :
     {w : ℕ → ℕ → ℕ} {here : ℕ → Bool} {x y z : ℕ} → Ahead w here x y → Ahead w here y z → Ahead w here x z
 ahead_trans (m, pm, p, np) (l, pl, q, nq) = elim (cases_lt m l) [
   | inl lt ↦ (m, pm, join p (weaken (omega arith) q), λ r. np (join (weaken (omega arith) q) r))

@@ -1,17 +1,17 @@
 -- What is accepted is true and as said, and what is as said is accepted.
-use Rattle.std.proofs.Common.{◌≡◌, ℕ, ◌-◌, ◌^◌, ◌<◌, ◌≤◌, true, false, cond, ltb, List, [], ◌∷◌, length, get_or, Some, None, Option, refl, ap, ◌∙◌, inl, inr, arith, pow_mono}
+use Rattle.std.proofs.Common.{◌≡◌, ℕ, ◌-◌, ◌<◌, ◌≤◌, true, false, cond, ltb, List, [], ◌∷◌, length, get_or, None, ap, ◌∙◌, inl, inr, arith, pow_mono}
 use Rattle.std.proofs.lemmas.List.FromFn.{length-map-range_with_len}
 use Rattle.std.proofs.lemmas.List.{length-drop}
 use Rattle.std.proofs.lemmas.Bool.{cases_eq, eq-eqb, ne_eqb}
-use Rattle.ballots.specs.declared.refusal.Refusal.{Refusal}
 use Rattle.ballots.specs.Format.{most_candidates, unranked, candidates_in, ballots_in, ballot_bytes, ranks_of, ballots_of}
-use Rattle.ballots.specs.Lending.{or_else}
 use Rattle.ballots.specs.Refusals.{refusal}
 use Rattle.ballots.proofs.Files.{accepted}
+use Rattle.ballots.proofs.Lending.{neither}
 use Rattle.pairwise.specs.declared.Pairwise.{Pairwise}
-use Rattle.pairwise.specs.Counts.{over, count, win_by, win}
+use Rattle.pairwise.specs.Counts.{count, win_by, win}
 use Rattle.pairwise.specs.Grids.{entry}
 use Rattle.pairwise.specs.Tables.{PairwiseOf}
+use Rattle.pairwise.proofs.Preferences.{count_le}
 use Rattle.paths.specs.Paths.{Strongest}
 use Rattle.paths.specs.Rows.{weakest}
 use Rattle.best.specs.Compared.{BestSet}
@@ -59,9 +59,6 @@ module _ (v : ℕ) (n : ℕ → ℕ → ℕ) (sheet : List ℕ) (met : Met (dema
       let at : length sheet - 4 ≡ best_place v sheet = omega (arith, b.end) in
       rw (at, b.set) (strongest_best (win_by n) v (claims_in v sheet).strength accepted_strongest)
 
-pow_le : (a b : ℕ) → a ≤ b → 2 ^ a ≤ 2 ^ b
-pow_le a b k = pow_mono k
-
 -- claims that are as said fit their bytes, where the counts do
 module _ (v : ℕ) (n : ℕ → ℕ → ℕ) (few : v ≤ most_candidates) (small : (x y : ℕ) → n x y < 65536) where
   win_small : (x y : ℕ) → win_by n x y < 65536
@@ -79,7 +76,7 @@ module _ (v : ℕ) (n : ℕ → ℕ → ℕ) (few : v ≤ most_candidates) (smal
   supported_fit claims p =
       record {
         strengths = λ x y lx ly ne. path_small x y (claims.strength x y) (claims.path x y) (p.paths x y lx ly ne);
-        cuts = λ x y lx ly ne. omega (arith, (p.cuts x y lx ly ne).bounded, pow_le v 32 (omega arith));
+        cuts = λ x y lx ly ne. omega (arith, (p.cuts x y lx ly ne).bounded, pow_mono {i = v} {j = 32} (omega arith));
       }
 
   -- a certificate that is as said
@@ -112,7 +109,7 @@ module _ (v : ℕ) (n : ℕ → ℕ → ℕ) (few : v ≤ most_candidates) (smal
         let same = one_best_set (win_by n) v set _ best (strongest_best (win_by n) v (claims_in v sheet).strength strongest) in
         record {
           end = omega (arith, ap length e, length-drop (best_place v sheet) sheet);
-          set = four_there sheet (best_place v sheet) set [] (omega (arith, best.within, pow_le v 32 (omega arith))) e ∙ same;
+          set = four_there sheet (best_place v sheet) set [] (omega (arith, best.within, pow_mono {i = v} {j = 32} (omega arith))) e ∙ same;
         }
 
     said_accepted : Met (demands v n sheet)
@@ -123,16 +120,9 @@ module _ (v : ℕ) (n : ℕ → ℕ → ℕ) (few : v ≤ most_candidates) (smal
         (met_pairs (claim_demands (win_by n) v sheet) v said_claim) (met_best v sheet said_best))
 
 -- no count is above what two bytes hold
-count_few : (ps : List (List ℕ)) (x y : ℕ) → count unranked ps x y ≤ length ps
-unfolding count
-count_few [] x y = omega arith
-count_few (p ∷ ps) x y =
-    let one : cond (over unranked p x y) 1 0 ≤ 1 = elim (over unranked p x y) as (λ t. cond t 1 0 ≤ 1) [ true ↦ omega arith | false ↦ omega arith ] in
-    omega (arith, count_few ps x y)
-
 count_small : (bytes : List ℕ) → ((i : ℕ) → get_or bytes i 0 < 256) → (x y : ℕ) → count unranked (ballots_of bytes) x y < 65536
 count_small bytes h x y =
-    omega (arith, count_few (ballots_of bytes) x y, length-map-range_with_len (λ i. ranks_of (ballot_bytes (candidates_in bytes) bytes i)) 0 (ballots_in bytes), h 1, h 2)
+    omega (arith, count_le (ballots_of bytes) x y, length-map-range_with_len (λ i. ranks_of (ballot_bytes (candidates_in bytes) bytes i)) 0 (ballots_in bytes), h 1, h 2)
 
 -- the table of the ballots is judged as their counts are
 pub judged : (bytes sheet : List ℕ) (t : Pairwise) → PairwiseOf bytes t →
@@ -145,10 +135,6 @@ judged bytes sheet t p =
     ∙ ap (λ v. demands v (count unranked (ballots_of bytes)) sheet) v))
 
 -- the ballots are accepted, and all demands are met
-neither : (first second : Option Refusal) → or_else first second ≡ None → (first ≡ None) × (second ≡ None)
-neither None second h = (refl, h)
-neither (Some e) second h = let z : ◌≡◌ {A = ℕ} 0 1 = cc in absurd (omega arith)
-
 pub accepted_true : (bytes sheet : List ℕ) → judge bytes sheet ≡ None → TrueTo bytes sheet
 unfolding win
 accepted_true bytes sheet h =

@@ -54,7 +54,7 @@ stands_append sheet p [] ys = rw add-zero
 stands_append sheet p (x ∷ xs) ys =
     let e : (p + 1) + length xs ≡ p + length (x ∷ xs) = omega arith in rw (stands_append sheet (p + 1) xs ys, e)
 
-pub passed_on :
+passed_on :
     {s₀ s₁ s₂ : Reader} {r : Result (Unit {0}) Refusal} (xs ys : List ℕ) →
     Passes xs s₀ s₁ (Ok tt) → Passes ys s₁ s₂ r → Passes (xs ++ ys) s₀ s₂ r
 passed_on {s₀ = s₀} {s₁ = s₁} {s₂ = s₂} {r = r} xs ys m n =
@@ -64,7 +64,7 @@ passed_on {s₀ = s₀} {s₁ = s₁} {s₂ = s₂} {r = r} xs ys m n =
     rw (m.same, at) (sym (stands_append s₀.sheet.now s₀.at xs ys)) in
     subst (λ k. Moved (stands s₀.sheet.now s₀.at (xs ++ ys)) k s₀ s₂ r) stop (subst (λ l. Moved l (s₁.at + length ys) s₀ s₂ r) ds (moved_on m n))
 
-pub passed_stop :
+passed_stop :
     {s₀ s₁ : Reader} {e : Refusal} (xs ys : List ℕ) → Passes xs s₀ s₁ (Err e) → Passes (xs ++ ys) s₀ s₁ (Err e)
 passed_stop {s₀ = s₀} {s₁ = s₁} {e = e} xs ys m =
     subst (λ l. Moved {A = Unit {0}} l (s₀.at + length (xs ++ ys)) s₀ s₁ (Err e)) (sym (stands_append s₀.sheet.now s₀.at xs ys))

@@ -45,7 +45,7 @@ leads_path {w = w} {here = here} x y s (z ∷ (a ∷ row)) hx l e pos =
     let p : Path w here m z y = leads_path z y m (a ∷ row) l.0 l.2 refl (omega arith) in
     join (step hx l.0 win) (weaken (omega arith) p)
 
-pub shows_path : {w : ℕ → ℕ → ℕ} {here : ℕ → Bool} {x y s : ℕ} {row : List ℕ} → Shows w here x y s row → Path w here s x y
+shows_path : {w : ℕ → ℕ → ℕ} {here : ℕ → Bool} {x y s : ℕ} {row : List ℕ} → Shows w here x y s row → Path w here s x y
 shows_path {x = x} {y = y} {s = s} p = leads_path x y s p.rest p.stands p.leads p.weak p.some
 
 pub path_and_cut : PathAndCut

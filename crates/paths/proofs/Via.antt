@@ -1,6 +1,5 @@
 -- Strengths: via is the strength of the strongest path, so paths can be decided and measured.
 use Rattle.std.proofs.Common.{◌≡◌, ℕ, zero, suc, ◌<◌, ◌≤◌, min, Bool, true, ◌⊎◌, inl, inr, arith}
-use native.Mathlib.Decide.{dec_le}
 use Rattle.std.proofs.lemmas.Bool.{cases_lt, cases_eq}
 use Rattle.paths.specs.Paths.{below, Within, Path, step, on, via}
 use Rattle.paths.specs.Laws.{ViaStrongest}
@@ -64,11 +63,6 @@ module _ (w : ℕ → ℕ → ℕ) (here : ℕ → Bool) (n : ℕ) (bound : With
   path_strength {m} (step {x = x} {y = y} hx hy h) = via_win w here m n x y h
   path_strength {m} (on {x = x} {y = y} {z = z} p hz h) =
       via_join w here m n y x z (bound y (ends p)) (ends p) (path_strength p) (via_win w here m n y z h)
-
-  -- so paths are decided
-  pub path_dec : (m x y : ℕ) → here x ≡ true → here y ≡ true → Dec (Path w here m x y)
-  path_dec m x y hx hy = elim (dec_le m (via w here n x y))
-      [ yes h ↦ yes (strength_path w here m n x y hx hy h) | no h ↦ no (λ p. h (path_strength p)) ]
 
   -- strengths join as paths do
   pub strength_join :

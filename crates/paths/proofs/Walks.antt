@@ -30,13 +30,6 @@ pub weaken : {w : ℕ → ℕ → ℕ} {here : ℕ → Bool} {m l x y : ℕ} →
 weaken l (step hx hy h) = step hx hy (le_trans l h)
 weaken l (on p hz h) = on (weaken l p) hz (le_trans l h)
 
--- a path among some is a path among more
-pub widen :
-    {w : ℕ → ℕ → ℕ} {here more : ℕ → Bool} {m x y : ℕ} → ((z : ℕ) → here z ≡ true → more z ≡ true) →
-    Path w here m x y → Path w more m x y
-widen f (step hx hy h) = step (f _ hx) (f _ hy) h
-widen f (on p hz h) = on (widen f p) (f _ hz) h
-
 -- where the wins among those that stand are the same, so are the paths
 pub rewin :
     {w v : ℕ → ℕ → ℕ} {here : ℕ → Bool} {m x y : ℕ} →
