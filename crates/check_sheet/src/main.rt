@@ -2,8 +2,7 @@
 #![tactic(auto)]
 
 use certificate::check;
-use program::{Failure, Program, read};
-use std::env;
+use program::{Failure, Program, read, words};
 use std::process::ExitCode;
 
 const CHECK: Program<'static> = Program {
@@ -12,8 +11,7 @@ const CHECK: Program<'static> = Program {
 };
 
 fn check_files(rt: &HostRuntime) -> Result<(), Failure> {
-    let mut args = env::args(rt)?;
-    let _ = args.next();
+    let mut args = words(rt)?;
     let (Some(ballots), Some(sheet), None) = (args.next(), args.next(), args.next()) else {
         return Err(Failure::Usage);
     };

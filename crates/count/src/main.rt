@@ -3,8 +3,7 @@
 
 use certificate::LONGEST;
 use pairwise::CELLS;
-use program::{Failure, Program, read, write};
-use std::env;
+use program::{Failure, Program, read, words, write};
 use std::env::Args;
 use std::process::ExitCode;
 use tiebreak::{count, report};
@@ -48,13 +47,11 @@ impl Request {
 }
 
 fn count_files(rt: &HostRuntime) -> Result<(), Failure> {
-    let mut words = env::args(rt)?;
-    let _ = words.next();
     let Request {
         ballots,
         draw,
         sheet: sheet_path,
-    } = Request::parse(words)?;
+    } = Request::parse(words(rt)?)?;
     let ballots = read(rt, ballots)?;
     let draw = match draw {
         None => Vec::new(rt.alloc()),

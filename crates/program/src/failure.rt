@@ -17,7 +17,7 @@ pub enum Failure {
     // The file of this path cannot be written.
     Write(String),
     Refused(Refusal),
-    // Memory ran out or a pipe is closed, which is not said.
+    // Memory ran out, or standard output cannot be written, which is not said.
     Unsaid,
 }
 
