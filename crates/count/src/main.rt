@@ -38,11 +38,23 @@ impl Request {
                 return Err(Failure::Usage);
             }
         }
-        Ok(Request {
+        let request = Request {
             ballots: ballots.ok_or(Failure::Usage)?,
             draw,
             sheet,
-        })
+        };
+        if request.overwrites() {
+            return Err(Failure::Usage);
+        }
+        Ok(request)
+    }
+
+    // Whether the path of the certificate is that of a file that is read.
+    fn overwrites(&self) -> bool {
+        let Some(sheet) = &self.sheet else {
+            return false;
+        };
+        *sheet == self.ballots || self.draw.as_ref() == Some(sheet)
     }
 }
 
