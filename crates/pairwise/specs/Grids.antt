@@ -20,10 +20,6 @@ cell cs x y = slice_index cs (x * most_candidates + y)
 abbrev pub Bounded : ℕ → List ℕ → Type 0
 Bounded n cs = (x y : ℕ) → (x < most_candidates) × (y < most_candidates) → cell cs x y ≤ n
 
--- no two cells of a pair have more than n together
-abbrev pub BothBounded : ℕ → List ℕ → List ℕ → Type 0
-BothBounded n cs ds = (x y : ℕ) → (x < most_candidates) × (y < most_candidates) → cell cs x y + cell ds x y ≤ n
-
 -- f of each pair of candidates below v, and 0 where there is no such pair
 abbrev pub within : ℕ → (ℕ → ℕ → ℕ) → ℕ → ℕ → ℕ
 within v f x y = cond (nat_lt x v && nat_lt y v) (f x y) 0

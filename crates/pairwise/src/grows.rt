@@ -2,6 +2,7 @@
 ghost use Rattle.pairwise.specs.Additions.{Emptied, Added};
 
 use crate::adds::{add_ballot, add_recent};
+use crate::counter::RECENT;
 use crate::{CELLS, Grid, Pairwise};
 use ballots::{MOST_CANDIDATES, Refusal};
 
@@ -35,7 +36,7 @@ impl Pairwise {
                 at: self.counts.candidates,
             });
         }
-        let mut one = [0u8; CELLS];
+        let mut one = [0u8; RECENT];
         add_ballot(&mut one, ballot);
         add_recent(&mut self.counts.cells, &one);
         self.ballots += 1;

@@ -3,10 +3,11 @@ ghost use Rattle.std.specs.Prelude.{◌≡◌, ℕ, ◌+◌, ◌<◌, ◌≤◌,
 ghost use Rattle.ballots.specs.Format.{most_candidates};
 ghost use Rattle.pairwise.specs.Counters.{counted_by};
 ghost use Rattle.pairwise.specs.Grids.{cell};
+ghost use Rattle.pairwise.specs.Recent.{byte};
 ghost use Rattle.pairwise.specs.Tables.{preference, Tallied};
 
 use crate::adds::{add_ballot, add_recent};
-use crate::counter::Counter;
+use crate::counter::{Counter, RECENT};
 use crate::{CELLS, Grid, Pairwise};
 use ballots::Refusal;
 
@@ -17,7 +18,7 @@ impl Counter {
     {
         Counter {
             counts: [0; CELLS],
-            recent: [0; CELLS],
+            recent: [0; RECENT],
             waiting: 0,
         }
     }
@@ -47,10 +48,10 @@ impl Counter {
     fn settle(&mut self)
         ensures none { self.new.waiting ≡ 0 }
         ensures counts { (x y : ℕ) → x < most_candidates → y < most_candidates → cell self.new.counts x y ≡ counted_by self.old x y }
-        ensures recent { (x y : ℕ) → cell self.new.recent x y ≡ 0 }
+        ensures recent { (x y : ℕ) → byte self.new.recent x y ≡ 0 }
     {
         add_recent(&mut self.counts, &self.recent);
-        self.recent = [0; CELLS];
+        self.recent = [0; RECENT];
         self.waiting = 0;
     }
 }

@@ -2,24 +2,24 @@ use Rattle.std.proofs.Common.{◌≡◌, ◌+◌, ◌*◌, None, refl, arith}
 use Rattle.std.proofs.lemmas.Bool.Decides.{nat_tests}
 use Rattle.ballots.specs.Format.{most_candidates}
 use Rattle.pairwise.specs.Additions.{add_refusal}
-use Rattle.pairwise.specs.Grids.{cells}
-use Rattle.pairwise.proofs.Cells.{zeros, room_by_pairs}
+use Rattle.pairwise.specs.Recent.{row_length}
+use Rattle.pairwise.proofs.Cells.{zeros}
 use Rattle.pairwise.proofs.Preferences.{preference_le}
 use Rattle.pairwise.proofs.Pairwise.add.Goals as goal
 
 pub add_ballot-requires-clause-room : goal.add_ballot-requires-clause-room
-add_ballot-requires-clause-room c = λ x y h k. omega (arith, zeros cells (x * most_candidates + y))
+add_ballot-requires-clause-room c = λ x y h k. omega (arith, zeros (most_candidates * row_length) (x * row_length + y))
 
 pub add_recent-requires : goal.add_recent-requires
 add_recent-requires c = record {
-  room = room_by_pairs 65535 c.args.self.now.counts.cells c.add_ballot.new.recent (λ x y h. omega (
+  room = λ x y h. omega (
     arith,
     c.if-self.false,
     c.args.self.now.bounded x y h,
-    c.add_ballot.ensures x y h.0 h.1,
+    c.add_ballot.ensures x y h.0 (omega (arith, h.1)),
     preference_le c.args.ballot.now x y,
-    zeros cells (x * most_candidates + y),
-  ));
+    zeros (most_candidates * row_length) (x * row_length + y),
+  );
 }
 
 pub invariant_of-self-2 : goal.invariant_of-self-2
@@ -27,10 +27,10 @@ invariant_of-self-2 c = record {
   bounded = λ x y h. omega (
     arith,
     c.args.self.now.bounded x y h,
-    c.add_recent.ensures (x * most_candidates + y) (omega (arith, h.0, h.1)),
-    c.add_ballot.ensures x y h.0 h.1,
+    c.add_recent.ensures x y h.0 h.1,
+    c.add_ballot.ensures x y h.0 (omega (arith, h.1)),
     preference_le c.args.ballot.now x y,
-    zeros cells (x * most_candidates + y),
+    zeros (most_candidates * row_length) (x * row_length + y),
   );
 }
 
@@ -45,9 +45,9 @@ returns c =
         candidates = refl;
         counts = λ x y h k. omega (
           arith,
-          c.add_recent.ensures (x * most_candidates + y) (omega arith),
-          c.add_ballot.ensures x y h k,
-          zeros cells (x * most_candidates + y),
+          c.add_recent.ensures x y h k,
+          c.add_ballot.ensures x y h (omega arith),
+          zeros (most_candidates * row_length) (x * row_length + y),
         );
       });
     }

@@ -1,9 +1,10 @@
 use Rattle.std.proofs.Common.{◌≡◌, ℕ, ◌+◌, ◌<◌, ◌≤◌, length, get_or}
-use Rattle.ballots.specs.Format.{most_candidates, rank_of}
+use Rattle.ballots.specs.Format.{rank_of}
+use Rattle.pairwise.specs.Recent.{row_length}
 use Rattle.pairwise.proofs.adds.keys_of.Given as goal
 
 abbrev pub invariant-loop-i : goal.invariant-loop-i
 invariant-loop-i l =
-    (length l.keys ≡ most_candidates)
+    (length l.keys ≡ row_length)
     × ((k : ℕ) → k < l.i → get_or l.keys k 0 + 1 ≡ rank_of (get_or l.ballot k 0))
     × ((k : ℕ) → l.i ≤ k → get_or l.keys k 0 ≡ 0)
