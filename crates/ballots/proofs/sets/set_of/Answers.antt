@@ -1,11 +1,7 @@
-use Rattle.std.proofs.Common.{refl, sym, ap, ◌∙◌, arith}
-use Rattle.ballots.specs.Sets.{set_of}
+use Rattle.std.proofs.Common.{sym, ◌∙◌, arith}
 use Rattle.ballots.proofs.Bits.{put_in, left_out}
 use Rattle.ballots.proofs.sets.set_of.Goals as goal
 use Rattle.ballots.proofs.sets.set_of.Goals.{then-test, else-test}
-
-pub loop-x-init : goal.loop-x-init
-loop-x-init g c passes meets = refl
 
 pub loop-x-preserved : goal.loop-x-preserved
 loop-x-preserved g c passes meets =
@@ -14,6 +10,3 @@ loop-x-preserved g c passes meets =
       | then-test w ↦ w.set-is ∙ put_in passes c.loop-x.set c.loop-x.x (omega arith) (c.loop-x.invariant passes meets) (sym e ∙ w.if-test.true)
       | else-test w ↦ w.set-is ∙ left_out passes c.loop-x.set c.loop-x.x (c.loop-x.invariant passes meets) (sym e ∙ w.if-test.false)
     ]
-
-pub returns : goal.returns
-returns g c passes meets = c.loop-x.invariant passes meets ∙ ap (set_of passes) (omega arith)

@@ -1,7 +1,6 @@
-use Rattle.std.proofs.Common.{◌≡◌, length, ap, ◌∙◌, sym, arith, rules}
+use Rattle.std.proofs.Common.{◌≡◌, length, ap, ◌∙◌, sym, arith}
 use Rattle.std.proofs.lemmas.List.{length-take, length-drop}
-use Rattle.std.proofs.lemmas.Nat.{mul-le}
-use Rattle.ballots.specs.Reading.{ballots_from, to_come}
+use Rattle.ballots.specs.Reading.{to_come}
 use Rattle.ballots.specs.Sets.{holds}
 use Rattle.ballots.specs.Strikes.{kept, ranks_at}
 use Rattle.ballots.proofs.Files.{accepted}
@@ -11,34 +10,12 @@ use Rattle.ballots.proofs.Reading.{next_is, none_left, ballot_long}
 use Rattle.ballots.proofs.Writing.{ballot_more, strikes_all, strikes_short}
 use Rattle.ballots.proofs.strikes.strike.Goals as goal
 
-pub overflow_mul-whole : goal.overflow_mul-whole
-overflow_mul-whole c = omega (arith, mul-le c.from.result c.len-stay.result 65535 30 (omega arith) (omega arith))
-
-pub overflow_add-whole : goal.overflow_add-whole
-overflow_add-whole c = omega (arith, mul-le c.from.result c.len-stay.result 65535 30 (omega arith) (omega arith))
-
 pub returns-then-out-whole : goal.returns-then-out-whole
 returns-then-out-whole c =
     let h = c.in_ok-file.ensures in
     let stay = c.len-stay.ensures.value ∙ ap length c.staying-staying.ensures ∙ ap (λ v. length (kept (holds c.args.keep) v)) h.candidates in
     strikes_short c.args.bytes.now c.args.out.now c.args.keep h.accepted (λ z. c.if-stay-eq0.false (stay ∙ z))
     c.from.result c.len-stay.result (c.from.ensures ∙ h.ballots) stay (omega arith)
-
-pub loop-i-init : goal.loop-i-init
-loop-i-init c = record {
-  counted = omega arith;
-  left = c.iter-ballot-items.ensures ∙ ap (λ bs. ballots_from bs 0) c.in_ok-file.ensures.bytes;
-  written = search rules;
-}
-
-pub overflow_mul-start : goal.overflow_mul-start
-overflow_mul-start c = let n = next_is c.args.bytes.now c.loop-i.i c.in-Some.ballot.now (to_come c.next.new.self) (sym c.loop-i.invariant.left ∙ c.in-Some.ensures.steps) in omega (arith, row_ends c.loop-i.i c.from.result c.len-stay.result (omega (arith, n.there, c.in_ok-file.ensures.ballots)))
-
-pub overflow_add-start : goal.overflow_add-start
-overflow_add-start c = let n = next_is c.args.bytes.now c.loop-i.i c.in-Some.ballot.now (to_come c.next.new.self) (sym c.loop-i.invariant.left ∙ c.in-Some.ensures.steps) in omega (arith, row_ends c.loop-i.i c.from.result c.len-stay.result (omega (arith, n.there, c.in_ok-file.ensures.ballots)))
-
-pub overflow_add-start-in-loop-i : goal.overflow_add-start-in-loop-i
-overflow_add-start-in-loop-i c = let n = next_is c.args.bytes.now c.loop-i.i c.in-Some.ballot.now (to_come c.next.new.self) (sym c.loop-i.invariant.left ∙ c.in-Some.ensures.steps) in omega (arith, row_ends c.loop-i.i c.from.result c.len-stay.result (omega (arith, n.there, c.in_ok-file.ensures.ballots)))
 
 pub slice_bounds-strike_ballot-end : goal.slice_bounds-strike_ballot-end
 slice_bounds-strike_ballot-end c = let n = next_is c.args.bytes.now c.loop-i.i c.in-Some.ballot.now (to_come c.next.new.self) (sym c.loop-i.invariant.left ∙ c.in-Some.ensures.steps) in omega (arith, row_ends c.loop-i.i c.from.result c.len-stay.result (omega (arith, n.there, c.in_ok-file.ensures.ballots)))

@@ -26,9 +26,6 @@ next_is t g keys left r h e =
     (e ∙ ap (λ s. next_by s g.candidates (before_by keys) (marked left)) h.each
     ∙ ap {B = Option ℕ} (λ n. next_by (strength_in t) n (before_by keys) (marked left)) h.candidates)
 
-pub push-requires : goal.push-requires
-push-requires c = (omega arith, omega (arith, c.args.strengths.now.pairwise.counts.few, c.loop-place.invariant.long))
-
 pub bounds-left-x : goal.bounds-left-x
 bounds-left-x c = omega (
   arith,

@@ -1,24 +1,16 @@
-use Rattle.std.proofs.Common.{ℕ, List, refl, ◌∙◌, arith, rules, length-set}
+use Rattle.std.proofs.Common.{ℕ, List, ◌∙◌, arith, rules, length-set}
 use Rattle.std.proofs.lemmas.Result.{err_from_is_err_and}
 use Rattle.pairwise.specs.declared.Pairwise.{Pairwise}
 use Rattle.pairwise.specs.Tables.{win_in}
 use Rattle.certificate.specs.Reading.{place}
 use Rattle.certificate.specs.Judge.{Demand, claim_demands}
 use Rattle.certificate.proofs.Places.{place_row}
-use Rattle.certificate.proofs.Moves.{moved_none, pair_moved, pair_refused, row_moved}
+use Rattle.certificate.proofs.Moves.{pair_moved, pair_refused, row_moved}
 use Rattle.certificate.proofs.Keeping.{kept_next, kept_row}
 use Rattle.certificate.proofs.entries.check_entries.Goals as goal
 
 abbrev demanded : Pairwise → List ℕ → ℕ → ℕ → List Demand
 demanded t = claim_demands (win_in t) t.counts.candidates
-
-pub loop-x-init : goal.loop-x-init
-loop-x-init c =
-    record {
-      moved = moved_none _ _ c.requires;
-      size = refl;
-      kept = λ a b o l ne. absurd (let f : ⊥ = grind arith in f);
-    }
 
 pub returns-in_err-cells : goal.returns-in_err-cells
 returns-in_err-cells c =

@@ -1,15 +1,11 @@
 use Rattle.std.proofs.Common.{ℕ, ◌+◌, ◌-◌, ◌*◌, take, drop, ap, ◌∙◌, arith}
 use Rattle.ballots.specs.Format.{most_candidates}
-use Rattle.ballots.proofs.Products.{row_ends}
 use Rattle.pairwise.specs.Grids.{cell}
-use Rattle.pairwise.proofs.Rows.{row_more, row_cells, copied_short, copied_all}
+use Rattle.pairwise.proofs.Rows.{row_more, row_cells, copied_short}
 use Rattle.pairwise.proofs.grid.Grid.copy_to.Goals as goal
 
 pub returns-then-out-v : goal.returns-then-out-v
 returns-then-out-v c = copied_short c.args.lent c.args.self.now.candidates (cell c.args.self.now.cells) c.args.out.now c.if-out-v.true
-
-pub slice_bounds-copy_from_slice-end : goal.slice_bounds-copy_from_slice-end
-slice_bounds-copy_from_slice-end c = omega (arith, row_ends c.loop-x.x c.args.self.now.candidates c.args.self.now.candidates (omega arith))
 
 pub loop-x-preserved : goal.loop-x-preserved
 loop-x-preserved c =
@@ -20,8 +16,3 @@ loop-x-preserved c =
     (c.copy_from_slice.ensures.after ∙ (ap (λ n. take n (drop (x * most_candidates) c.args.self.now.cells)) (omega arith)
     ∙ row_cells v x c.args.self.now.cells c.args.self.now.few (omega arith) (omega arith)))
     c.loop-x.invariant
-
-pub returns : goal.returns
-returns c =
-    copied_all c.args.lent c.args.self.now.candidates c.loop-x.x (cell c.args.self.now.cells) c.args.out.now c.loop-x.out
-    c.if-out-v.false (omega arith) c.loop-x.invariant
