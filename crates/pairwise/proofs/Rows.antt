@@ -1,10 +1,10 @@
 -- Rows of one length, copied one after the other.
-use Rattle.std.proofs.Common.{◌≡◌, ℕ, zero, suc, ◌+◌, ◌*◌, ◌<◌, ◌≤◌, List, ◌++◌, map, length, take, drop, Ok, Err, sym, refl, ap, ◌∙◌, add-mul, arith}
+use Rattle.std.proofs.Common.{◌≡◌, ℕ, zero, suc, ◌+◌, ◌*◌, ◌<◌, ◌≤◌, List, ◌++◌, map, length, take, drop, Err, refl, ◌∙◌, add-mul, arith}
 use borrow.Rule.Slice.PartMut.{put_mid}
 use Rattle.std.specs.List.{range_with_len, flat_map}
 use Rattle.std.proofs.lemmas.List.{length-take, length-drop, get_or-take, get_or-drop}
 use Rattle.std.proofs.lemmas.List.FromFn.{length-map-range_with_len, fill_by_all}
-use Rattle.std.proofs.lemmas.Bool.{lt-ltb, le-ltb}
+use Rattle.std.proofs.lemmas.Bool.{lt-ltb}
 use Rattle.ballots.specs.declared.refusal.Lent.{Lent}
 use Rattle.ballots.specs.declared.refusal.Refusal.TheVariants.{Short}
 use Rattle.ballots.specs.Format.{most_candidates}
@@ -30,14 +30,7 @@ row_more v x k f old out row ek er e =
     let m : (x + 1) * v ≡ x * v + v = omega (arith, add-mul x 1 v) in
     rw (e, ek, er, m, rows_more (λ i. map (f i) (range_with_len 0 v)) x) (row_behind front (map (f x) (range_with_len 0 v)) old (x * v) v n)
 
--- all rows are copied, or none
-pub copied_all : (lent : Lent) (v x : ℕ) (f : ℕ → ℕ → ℕ) (old new : List ℕ) → v * v ≤ length old → x ≡ v →
-    new ≡ front_rows v f x old → Copied lent (rows v f) old new (Ok tt)
-copied_all lent v x f old new room e is =
-    let n = length_rows v f in
-    let t = le-ltb (length old) (v * v) room in
-    record { answer = rw (n, t); after = rw (n, t) (is ∙ (ap (λ i. front_rows v f i old) e ∙ ap (λ k. rows v f ++ drop k old) (sym n))) }
-
+-- no row is copied where there is no room for all
 pub copied_short : (lent : Lent) (v : ℕ) (f : ℕ → ℕ → ℕ) (old : List ℕ) → length old < v * v → Copied lent (rows v f) old old (Err (Short lent))
 copied_short lent v f old short =
     let n = length_rows v f in

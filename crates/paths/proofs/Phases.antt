@@ -1,7 +1,7 @@
 -- The turns of the loops that find the strengths: a phase is what one candidate does as the one in the middle.
 use Rattle.std.proofs.Common.{◌≡◌, ℕ, suc, ◌+◌, ◌*◌, ◌^◌, ◌<◌, ◌≤◌, min, max, Bool, true, cond, ◌&&◌, ◌||◌, eqb, ltb, List, length, replicate, sym, ap, ◌∙◌, subst, inl, inr, arith}
 use lib.ListN.{length-replicate}
-use Rattle.std.proofs.lemmas.Bool.{cases_Bool, cases_eq, cases_lt, and_parts, and_from, ltb-true, lt-ltb}
+use Rattle.std.proofs.lemmas.Bool.{cases_eq, cases_lt, and_from, lt-ltb}
 use Rattle.std.proofs.lemmas.Bool.Decides.{nat_tests}
 use Rattle.ballots.specs.Format.{most_candidates}
 use Rattle.ballots.specs.Sets.{set_of}
@@ -12,7 +12,7 @@ use Rattle.pairwise.specs.Tables.{win_in}
 use Rattle.pairwise.proofs.Cells.{zeros}
 use Rattle.paths.specs.Paths.{below, via}
 use Rattle.paths.specs.Rows.{bettered}
-use Rattle.paths.specs.Strengths.{Strong, Middles}
+use Rattle.paths.specs.Strengths.{Strong}
 use Rattle.paths.specs.Phases.{Wins, through, Tried, Cleared}
 use Rattle.paths.proofs.Walks.{in_below}
 use Rattle.paths.proofs.Via.{via_to, via_from}
@@ -37,7 +37,7 @@ pub record Phase (w : ℕ → ℕ → ℕ) (v k x y : ℕ) (cs hs : List ℕ) : 
   pub wide : length hs ≡ cells
   pub each : (a b : ℕ) → a < most_candidates → b < most_candidates → At w v (stage k x y a b) cs hs a b
 
--- what a pair of candidates has, and that a pair that is not there has the same at every stage
+-- what a pair of candidates has
 module _ (w : ℕ → ℕ → ℕ) (v : ℕ) (cs hs : List ℕ) where
   at_in :
       (k a b : ℕ) → a < v → b < v → At w v k cs hs a b →
@@ -48,40 +48,6 @@ module _ (w : ℕ → ℕ → ℕ) (v : ℕ) (cs hs : List ℕ) where
       (k a b : ℕ) → a < v → b < v → cell cs a b ≡ via w (below v) k a b → cell hs a b ≡ set_of (bettered w (below v) a b) k →
       At w v k cs hs a b
   at_from k a b av bv p q = let e = and_from (ltb a v) (ltb b v) (lt-ltb a v av) (lt-ltb b v bv) in rw e (p, q)
-
-  at_moves : (k j a b : ℕ) → (a < v → b < v → k ≡ j) → At w v k cs hs a b → At w v j cs hs a b
-  at_moves k j a b f h = elim (cases_Bool (ltb a v && ltb b v)) [
-    | inl e ↦
-        let (p, q) = and_parts (ltb a v) (ltb b v) e in
-        subst (λ (i : ℕ). At w v i cs hs a b) (f (ltb-true a v p) (ltb-true b v q)) h
-    | inr e ↦ rw e (rw e at h)
-  ]
-
--- from phase to phase, and from row to row
-pub phase_starts : {w : ℕ → ℕ → ℕ} {v k : ℕ} {cs hs : List ℕ} → Settled w v k cs hs → Phase w v k 0 0 cs hs
-phase_starts {w} {v} {k} {cs} {hs} p =
-    record {
-      long = p.long;
-      wide = p.wide;
-      each = λ a b am bm. at_moves w v cs hs k (stage k 0 0 a b) a b (λ av bv. grind (arith, nat_tests)) (p.each a b am bm);
-    }
-
-pub next_row : {w : ℕ → ℕ → ℕ} {v k x y : ℕ} {cs hs : List ℕ} → Phase w v k x y cs hs → v ≤ y → Phase w v k (x + 1) 0 cs hs
-next_row {w} {v} {k} {x} {y} {cs} {hs} p l =
-    record {
-      long = p.long;
-      wide = p.wide;
-      each = λ a b am bm.
-          at_moves w v cs hs (stage k x y a b) (stage k (x + 1) 0 a b) a b (λ av bv. grind (arith, nat_tests)) (p.each a b am bm);
-    }
-
-pub next_phase : {w : ℕ → ℕ → ℕ} {v k x : ℕ} {cs hs : List ℕ} → Phase w v k x 0 cs hs → v ≤ x → Settled w v (k + 1) cs hs
-next_phase {w} {v} {k} {x} {cs} {hs} p l =
-    record {
-      long = p.long;
-      wide = p.wide;
-      each = λ a b am bm. at_moves w v cs hs (stage k x 0 a b) (k + 1) a b (λ av bv. grind (arith, nat_tests)) (p.each a b am bm);
-    }
 
 via_is :
     (w : ℕ → ℕ → ℕ) (here : ℕ → Bool) (k x y : ℕ) → here k ≡ true →
@@ -180,7 +146,7 @@ first_phase t cs long p =
       );
     }
 
--- after the last one, with the diagonal cleared, there are the strengths and all middles
+-- after the last one, with the diagonal cleared, there are the strengths
 module _ (t : Pairwise) {k : ℕ} {cs hs : List ℕ} (p : Settled (win_in t) t.counts.candidates k cs hs)
     (done : k ≡ t.counts.candidates) where
   pub all_strengths : (cs' : List ℕ) → Cleared t.counts.candidates cs cs' → Strong t cs'
@@ -188,6 +154,3 @@ module _ (t : Pairwise) {k : ℕ} {cs hs : List ℕ} (p : Settled (win_in t) t.c
       let v : ℕ = t.counts.candidates in
       let e : cell cs x y ≡ within v (via (win_in t) (below v) v) x y = rw done at (p.each x y b.0 b.1).0 in
       cleared x y b.0 b.1 ∙ grind (arith, nat_tests)
-
-  pub all_middles : Middles t hs
-  all_middles x y b = rw done at (p.each x y b.0 b.1).1
