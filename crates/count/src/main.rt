@@ -22,7 +22,7 @@ struct Request {
 }
 
 impl Request {
-    // The word behind `--sheet` is its file, whatever it is, and the last one counts.
+    // The word behind `--sheet` is its file, whatever it is, and the last one counts. There is no other option.
     fn parse(mut words: Args) -> Result<Request, Failure> {
         let mut ballots = None;
         let mut draw = None;
@@ -30,6 +30,8 @@ impl Request {
         while let Some(word) = words.next() {
             if word.as_str() == "--sheet" {
                 sheet = Some(words.next().ok_or(Failure::Usage)?);
+            } else if word.as_str().starts_with("--") {
+                return Err(Failure::Usage);
             } else if ballots.is_none() {
                 ballots = Some(word);
             } else if draw.is_none() {
