@@ -5,7 +5,10 @@ use certificate::LONGEST;
 use pairwise::CELLS;
 use program::{Failure, Program, read, words, write};
 use std::env::Args;
+use std::fs;
+use std::os::unix::fs::MetadataExt;
 use std::process::ExitCode;
+use std::rt::Files;
 use tiebreak::{count, report};
 
 const COUNT: Program<'static> = Program {
@@ -40,32 +43,41 @@ impl Request {
                 return Err(Failure::Usage);
             }
         }
-        let request = Request {
+        Ok(Request {
             ballots: ballots.ok_or(Failure::Usage)?,
             draw,
             sheet,
-        };
-        if request.overwrites() {
-            return Err(Failure::Usage);
-        }
-        Ok(request)
+        })
     }
 
-    // Whether the path of the certificate is that of a file that is read.
-    fn overwrites(&self) -> bool {
+    // Whether the certificate would be written over a file that is read.
+    fn overwrites(&self, rt: &impl Files) -> bool {
         let Some(sheet) = &self.sheet else {
             return false;
         };
-        *sheet == self.ballots || self.draw.as_ref() == Some(sheet)
+        let over = |read: &String| is_one_file(rt, sheet.as_str(), read.as_str());
+        over(&self.ballots) || self.draw.as_ref().is_some_and(over)
     }
 }
 
+// Whether two paths lead to one file that is there.
+fn is_one_file(rt: &impl Files, one: &str, other: &str) -> bool {
+    let (Ok(one), Ok(other)) = (fs::metadata(rt, one), fs::metadata(rt, other)) else {
+        return false;
+    };
+    one.dev() == other.dev() && one.ino() == other.ino()
+}
+
 fn count_files(rt: &HostRuntime) -> Result<(), Failure> {
+    let request = Request::parse(words(rt)?)?;
+    if request.overwrites(rt) {
+        return Err(Failure::Usage);
+    }
     let Request {
         ballots,
         draw,
         sheet: sheet_path,
-    } = Request::parse(words(rt)?)?;
+    } = request;
     let ballots = read(rt, ballots)?;
     let draw = match draw {
         None => Vec::new(rt.alloc()),
