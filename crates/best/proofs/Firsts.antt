@@ -1,5 +1,5 @@
 -- The first in a tie-break order.
-use Rattle.std.proofs.Common.{◌≡◌, ℕ, zero, suc, ◌+◌, ◌<◌, Bool, true, false, ◌≢◌, List, Some, None, Option, sym, refl, ap, ◌∙◌, inl, inr, arith}
+use Rattle.std.proofs.Common.{◌≡◌, ℕ, zero, suc, ◌+◌, ◌<◌, Bool, true, false, ◌≢◌, Some, None, Option, sym, refl, ap, ◌∙◌, inl, inr, arith}
 use Rattle.std.proofs.lemmas.Bool.{cases_eq, cases_Bool}
 use Rattle.std.proofs.lemmas.Bool.Decides.{nat_tests}
 use Rattle.std.specs.List.{fold}
@@ -7,10 +7,10 @@ use Rattle.std.proofs.lemmas.List.Sums.{fold_push}
 use Rattle.ballots.specs.Strikes.{kept}
 use Rattle.ballots.proofs.Kept.{kept_none, kept_in, kept_out}
 use Rattle.best.specs.Orders.{IsTieBreak}
-use Rattle.best.specs.Compared.{before_by, earlier, first_below}
+use Rattle.best.specs.Compared.{KeysMakeATieBreak, earlier, first_below}
 
 -- whatever the keys are, they make a tie-break order
-pub by_keys : (keys : List ℕ) → IsTieBreak (before_by keys)
+pub by_keys : KeysMakeATieBreak
 by_keys keys =
     record {
       total = λ x y ne. grind (arith, nat_tests);

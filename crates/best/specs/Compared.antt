@@ -6,7 +6,7 @@ use Rattle.pairwise.specs.Tables.{win_in}
 use Rattle.paths.specs.Paths.{below}
 use Rattle.best.specs.declared.ranking.Order.{Order}
 use Rattle.best.specs.Best.{Ahead, Best}
-use Rattle.best.specs.Orders.{FullOrder}
+use Rattle.best.specs.Orders.{FullOrder, IsTieBreak}
 
 -- by the strengths s, x is ahead of y
 abbrev pub ahead_by : (ℕ → ℕ → ℕ) → ℕ → ℕ → Bool
@@ -30,6 +30,10 @@ abbrev pub before_by : List ℕ → ℕ → ℕ → Bool
 before_by keys x y =
     nat_lt (slice_index keys x) (slice_index keys y) || (slice_index keys x == slice_index keys y && nat_lt x y)
 
+-- whatever the keys are, they make a tie-break order
+abbrev pub KeysMakeATieBreak : Type 0
+KeysMakeATieBreak = (keys : List ℕ) → IsTieBreak (before_by keys)
+
 -- the earlier of two candidates, or the only one
 abbrev pub earlier : (ℕ → ℕ → Bool) → Option ℕ → ℕ → ℕ
 earlier before None x = x
@@ -49,6 +53,6 @@ pub record OrderBy (w : ℕ → ℕ → ℕ) (n : ℕ) (before : ℕ → ℕ →
   pub candidates : length o.places.items ≡ n
   pub row : FullOrder (Ahead w (below n)) before (below n) o.places.items
 
--- the order is the full order of the candidates of a table
+-- the order is the full order of the candidates by their pairwise counts
 abbrev pub OrderOf : Pairwise → (ℕ → ℕ → Bool) → Order → Type 0
 OrderOf t before o = OrderBy (win_in t) t.counts.candidates before o

@@ -1,5 +1,6 @@
 // The laws of the method: each function's contract is a theorem, over any win function and for lists of ballots.
 ghost use Rattle.best.specs.Answers as Answers;
+ghost use Rattle.best.specs.Compared as Compared;
 ghost use Rattle.best.specs.Elections as Elections;
 ghost use Rattle.best.specs.Laws as Laws;
 ghost use Rattle.best.specs.Orders as Orders;
@@ -76,8 +77,10 @@ pub fn clone_independence_holds()
     ensures ballots { Elections.CloneIndependence }
 {}
 
-// There is at most one full order; its first candidate is among the best, and whoever is ahead of another stands before it.
+// Whatever the keys are, they make a tie-break order, by which there is at most one full order; its first candidate is among
+// the best, and whoever is ahead of another stands before it.
 pub fn full_order_holds()
+    ensures keys { Compared.KeysMakeATieBreak }
     ensures one { Orders.OneOrder }
     ensures first { Orders.FirstIsBest }
     ensures ahead { Orders.AheadStandsBefore }
