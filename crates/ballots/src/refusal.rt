@@ -34,7 +34,7 @@ pub enum Refusal {
     Table { at: usize },
     // A certificate's path is none, or not of the strength.
     Path { from: u8, to: u8 },
-    // A certificate's cut does not part the pair, or has too strong a win across.
+    // A certificate's cut does not part the pair, has a bit that is no candidate's, or has too strong a win across.
     Cut { from: u8, to: u8 },
     // A certificate's set is not that of the best.
     Best,

@@ -63,7 +63,7 @@ pub record CertifiesBy (refused : Option Refusal) (ballots v : ℕ) (n : ℕ →
   pub strengths_after : strengths' ≡ written refused strengths (strengths_by v n)
   pub sheet_after : sheet' ≡ written refused sheet (certificate_by v n)
 
--- the counts in a table are certified, unless a slice is too short
+-- pairwise counts are certified, unless a slice is too short
 abbrev pub CertifiesTable : Pairwise → List ℕ → List ℕ → List ℕ → List ℕ → List ℕ → List ℕ → Result Certified Refusal → Type 0
 CertifiesTable t table table' strengths strengths' sheet sheet' r =
     CertifiesBy (room_refusal t.counts.candidates (length table) (length strengths) (length sheet)) t.ballots t.counts.candidates (entry t.counts) table table' strengths strengths' sheet sheet' r

@@ -1,4 +1,4 @@
--- The certificate of a table of pairwise counts, part by part. Assumes nothing.
+-- The certificate of pairwise counts, part by part. Assumes nothing.
 use Rattle.std.specs.Prelude.{ℕ, List}
 use Rattle.pairwise.specs.declared.Pairwise.{Pairwise}
 use Rattle.pairwise.specs.Grids.{entry}

@@ -42,7 +42,7 @@ Passes bs old new r = Moved (stands old.sheet.now old.at bs) (old.at + length bs
 abbrev pub Ends : Reader → Result (Unit {0}) Refusal → Type 0
 Ends reader r = r ≡ answered (cond (nat_le (length reader.sheet.now) reader.at) None (Some (refuse.Length reader.at))) tt
 
--- all that is demanded of a certificate of a table
+-- all that is demanded of a certificate of pairwise counts
 abbrev pub demands_in : Pairwise → List ℕ → List Demand
 demands_in t sheet = demands t.counts.candidates (entry t.counts) sheet
 

@@ -1,4 +1,4 @@
--- Counts in bytes, in rows that are a little longer than most candidates need. Assumes nothing.
+-- Counts in bytes, in rows of two more than there can be candidates. Assumes nothing.
 use Rattle.std.specs.Prelude.{ℕ, ◌+◌, ◌*◌, ◌<◌, ◌≤◌, List, slice_index}
 use Rattle.ballots.specs.Format.{most_candidates}
 use Rattle.pairwise.specs.Grids.{cell}

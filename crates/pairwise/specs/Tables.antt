@@ -15,7 +15,7 @@ preference p = within (length p) (λ x y. cond (over unranked (ranks_of p) x y) 
 abbrev pub Counted : ℕ → List (List ℕ) → List ℕ → Type 0
 Counted v ps cs = (x y : ℕ) → x < most_candidates → y < most_candidates → cell cs x y ≡ within v (count unranked ps) x y
 
--- the strength of the win of x against y in a table, 0 where x does not win
+-- the strength of the win of x against y by pairwise counts, 0 where x does not win
 abbrev pub win_in : Pairwise → ℕ → ℕ → ℕ
 win_in t = win_by (entry t.counts)
 

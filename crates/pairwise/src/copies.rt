@@ -7,7 +7,7 @@ use crate::Grid;
 use ballots::{Lent, MOST_CANDIDATES, Refusal};
 
 impl Grid {
-    // The number of the pair x, y; 0 where there is no such pair, as no ballot and no path has one.
+    // The number of the pair x, y; 0 where one of them is no candidate.
     pub fn at(&self, x: usize, y: usize) -> u16
         ensures { result ≡ entry self.now x y }
     {

@@ -16,6 +16,7 @@ pub(crate) const RECENT: usize = MOST_CANDIDATES * ROW;
 pub(crate) struct Counter {
     pub(crate) counts: [u16; CELLS],
     pub(crate) recent: [u8; RECENT],
+    // How many ballots are counted in `recent`.
     pub(crate) waiting: u8,
     ghost few: { BytesBounded waiting recent },
     ghost fits: { BothBounded 65535 counts recent },

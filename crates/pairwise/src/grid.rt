@@ -7,8 +7,7 @@ use ballots::MOST_CANDIDATES;
 // How many pairs there are at the most, those of a candidate with itself among them.
 pub const CELLS: usize = MOST_CANDIDATES * MOST_CANDIDATES;
 
-// The number of the pair x, y stands at x × MOST_CANDIDATES + y, however many candidates there are: so its place does not
-// depend on their number.
+// The number of the pair x, y stands at x × MOST_CANDIDATES + y, however many candidates there are.
 #[derive(Clone, Copy)]
 pub struct Grid {
     pub candidates: usize,

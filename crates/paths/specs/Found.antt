@@ -1,4 +1,4 @@
--- What is answered of a pair of candidates in a table of pairwise counts: its strength, its path and its cut. Assumes nothing.
+-- What is answered of a pair of candidates by pairwise counts: its strength, its path and its cut. Assumes nothing.
 use Rattle.std.specs.Prelude.{◌≡◌, ℕ, ◌+◌, ◌<◌, true, cond, List, [], ◌++◌, length, take, drop, nat_le}
 use Rattle.pairwise.specs.declared.Pairwise.{Pairwise}
 use Rattle.pairwise.specs.declared.grid.Grid.{Grid}

@@ -1,4 +1,4 @@
--- The strengths of the pairs of candidates in a table of pairwise counts. Assumes nothing.
+-- The strengths of the pairs of candidates by pairwise counts. Assumes nothing.
 use Rattle.std.specs.Prelude.{◌≡◌, ℕ, ◌<◌, List}
 use Rattle.ballots.specs.Format.{most_candidates}
 use Rattle.ballots.specs.Sets.{set_of}

@@ -53,9 +53,8 @@ impl Strengths {
         let candidates = pairwise.counts.candidates;
         let mut cells = wins(pairwise);
         let mut middles = [0; CELLS];
-        // Three nested loops, the outermost over the candidate in the middle, then over x, then over y: once a middle
-        // has had its turn, every pair has the strength over all middles so far. In its turn nothing changes to it or
-        // from it, so one table does. With the middle further in, a pair is left before the parts of its path are found.
+        // Once a middle has had its turn, every pair has the strength over all middles so far. In its turn nothing changes
+        // to it or from it, so one grid does. With the middle further in, a pair is left before the parts of its path are found.
         for middle in 0..candidates {
             for x in 0..candidates {
                 for y in 0..candidates {

@@ -18,7 +18,8 @@ fn last_below(set: u32, limit: usize) -> Option<usize>
 
 impl Strengths {
     // Puts what follows x on the path to y over middles below the limit behind the path so far. The last middle that
-    // bettered the pair parts it; both parts have only earlier middles, and so no candidate in common.
+    // bettered the pair parts it, and both parts have only earlier middles. Beside it they share nobody: over a shared
+    // candidate the pair would have been as strong before.
     fn push_after(&self, limit: usize, x: usize, y: usize, path: &mut ArrayVec<u8, MOST_CANDIDATES>)
         requires inside { (x < self.now.pairwise.counts.candidates) × ((y < self.now.pairwise.counts.candidates) × (limit ≤ self.now.pairwise.counts.candidates)) }
         requires room { length path.old.items + length (path_in self.now.pairwise limit x y) ≤ most_candidates }

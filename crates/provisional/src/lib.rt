@@ -1,4 +1,4 @@
-// The provisional count: it keeps only the table between ballots, and tells the best of those taken so far.
+// The provisional count: it keeps only the pairwise counts between ballots, and tells the best of those taken so far.
 #![tactic(auto)]
 
 ghost use Rattle.std.specs.Prelude.{◌≡◌};
