@@ -5,7 +5,7 @@ use Rattle.std.proofs.lemmas.Bool.Decides.{Decides-like}
 use Rattle.ballots.specs.Format.{unranked, candidates_in, ballots_of}
 use Rattle.pairwise.specs.declared.Pairwise.{Pairwise}
 use Rattle.pairwise.specs.Counts.{count, win}
-use Rattle.pairwise.specs.Grids.{entry}
+use Rattle.pairwise.specs.Grids.{number_for}
 use Rattle.pairwise.specs.Tables.{win_in, PairwiseOf}
 use Rattle.paths.specs.Paths.{below}
 use Rattle.paths.proofs.Walks.{below_in, rewin}
@@ -28,8 +28,8 @@ ahead_rewin :
 ahead_rewin f (m, pos, p, np) = (m, pos, rewin f p, λ q. np (rewin (λ a c ha hc. sym (f a c ha hc)) q))
 
 module _ (bs : List ℕ) (t : Pairwise) (h : PairwiseOf bs t) where
-  pub entry_count : (x y : ℕ) → x < candidates_in bs → y < candidates_in bs → entry t.counts x y ≡ count unranked (ballots_of bs) x y
-  entry_count x y xv yv =
+  pub grid_count : (x y : ℕ) → x < candidates_in bs → y < candidates_in bs → number_for t.counts x y ≡ count unranked (ballots_of bs) x y
+  grid_count x y xv yv =
       let v = h.candidates in
       let few = t.counts.few in
       rw (lt-ltb x t.counts.candidates (omega arith), lt-ltb y t.counts.candidates (omega arith))
@@ -37,7 +37,7 @@ module _ (bs : List ℕ) (t : Pairwise) (h : PairwiseOf bs t) where
 
   pub win_tabled : (x y : ℕ) → x < candidates_in bs → y < candidates_in bs → win unranked (ballots_of bs) x y ≡ win_in t x y
   unfolding win
-  win_tabled x y xv yv = rw (entry_count x y xv yv, entry_count y x yv xv)
+  win_tabled x y xv yv = rw (grid_count x y xv yv, grid_count y x yv xv)
 
   pub best_tabled : (s : ℕ) → BestSet (win_in t) t.counts.candidates s → BestOf bs s
   best_tabled s b =

@@ -14,7 +14,7 @@ use Rattle.best.specs.Compared.{best_by}
 use Rattle.best.specs.Worked.{WorkedCount, worked, among, Right, WorkedCounts}
 use Rattle.best.proofs.Meanings.{best_meaning}
 
--- the strengths of an entry are those that via computes
+-- the strengths of a worked count are those that via computes
 abbrev strengths_agree : WorkedCount → Bool
 strengths_agree c = every (λ x. every (λ y.
     eqb (strength (win unranked c.ballots) c.candidates x y) (get_or (get_or c.strengths x []) y 0)) c.candidates) c.candidates
@@ -42,7 +42,7 @@ among_below n x (y ∷ ys) h l = elim (or_cases (eqb x y) (among ys x) l) [
   | inr e ↦ among_below n x ys (and_parts _ _ h).1 e
 ]
 
--- an entry that passes the test is right
+-- a worked count that passes the test is right
 agrees_right : (c : WorkedCount) → agrees c ≡ true → Right c
 agrees_right c h =
     let n : ℕ = c.candidates in

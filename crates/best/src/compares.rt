@@ -1,7 +1,7 @@
 // Who is ahead, and who is among the best.
 ghost use Rattle.std.specs.Prelude.{◌≡◌, ◌≤◌, false, Decides, slice_index_or};
 ghost use Rattle.ballots.specs.Format.{most_candidates};
-ghost use Rattle.pairwise.specs.Grids.{entry};
+ghost use Rattle.pairwise.specs.Grids.{number_for};
 ghost use Rattle.pairwise.specs.Tables.{win_in};
 ghost use Rattle.paths.specs.Paths.{below};
 ghost use Rattle.paths.specs.Strengths.{strength_in};
@@ -14,7 +14,7 @@ use paths::Strengths;
 
 // Whether x is ahead of y by these strengths: the strength from x to y is above the strength back.
 fn ahead_by(strengths: &Grid, x: usize, y: usize) -> bool
-    ensures { result ≡ ahead_by (entry strengths.now) x y }
+    ensures { result ≡ ahead_by (number_for strengths.now) x y }
 {
     strengths.at(y, x) < strengths.at(x, y)
 }
@@ -29,14 +29,14 @@ pub fn ahead(strengths: &Strengths, x: usize, y: usize) -> bool
 
 // Whether none of the candidates that are left is ahead of x.
 pub(crate) fn unbeaten(strengths: &Grid, left: &[bool; MOST_CANDIDATES], x: usize) -> bool
-    ensures { result ≡ unbeaten_by (entry strengths.now) strengths.now.candidates (λ y. slice_index_or left.now y false) x }
+    ensures { result ≡ unbeaten_by (number_for strengths.now) strengths.now.candidates (λ y. slice_index_or left.now y false) x }
 {
     (0..strengths.candidates).all(|y| !(left[y] && ahead_by(strengths, y, x)))
 }
 
 // By any strengths, the set of the candidates of whom nobody is ahead.
 pub fn best_by(strengths: &Grid) -> u32
-    ensures { result ≡ best_by (entry strengths.now) strengths.now.candidates }
+    ensures { result ≡ best_by (number_for strengths.now) strengths.now.candidates }
 {
     let everybody = [true; MOST_CANDIDATES];
     set_of(strengths.candidates, |x| unbeaten(strengths, &everybody, x))

@@ -1,7 +1,7 @@
 // The full order of the candidates.
 ghost use Rattle.std.specs.Prelude.{◌≡◌, ◌<◌, false, replicate, slice_index, slice_index_or};
 ghost use Rattle.ballots.specs.Format.{most_candidates};
-ghost use Rattle.pairwise.specs.Grids.{entry};
+ghost use Rattle.pairwise.specs.Grids.{number_for};
 ghost use Rattle.best.specs.Compared.{before_by, earlier, next_by, OrderOf};
 
 use crate::Order;
@@ -53,7 +53,7 @@ impl TieBreak {
 
 // Of the candidates that are left and of whom no left one is ahead, the first in the tie-break order.
 fn next(strengths: &Grid, tie_break: &TieBreak, left: &[bool; MOST_CANDIDATES]) -> Option<usize>
-    ensures { result ≡ next_by (entry strengths.now) strengths.now.candidates (before_by tie_break.now.keys) (λ y. slice_index_or left.now y false) }
+    ensures { result ≡ next_by (number_for strengths.now) strengths.now.candidates (before_by tie_break.now.keys) (λ y. slice_index_or left.now y false) }
 {
     (0..strengths.candidates)
         .filter(|x| left[*x] && unbeaten(strengths, left, *x))

@@ -10,7 +10,7 @@ use Rattle.ballots.specs.Format.{unranked, candidates_in, ballots_of}
 use Rattle.ballots.specs.Lending.{answered}
 use Rattle.pairwise.specs.declared.Pairwise.{Pairwise}
 use Rattle.pairwise.specs.Counts.{count, win_by, win}
-use Rattle.pairwise.specs.Grids.{cell, entry, rows, table, Copied}
+use Rattle.pairwise.specs.Grids.{cell, number_for, rows, table, Copied}
 use Rattle.pairwise.specs.Tables.{win_in, PairwiseOf}
 use Rattle.pairwise.proofs.Rows.{length_rows, rows_same}
 use Rattle.paths.specs.Paths.{strength}
@@ -18,7 +18,7 @@ use Rattle.paths.specs.Strengths.{strength_in, strength_table}
 use Rattle.paths.specs.Found.{put, Wrote}
 use Rattle.best.specs.Compared.{best_by, BestSet}
 use Rattle.best.proofs.Meanings.{best_meaning}
-use Rattle.best.proofs.Tabled.{entry_count}
+use Rattle.best.proofs.Tabled.{grid_count}
 use Rattle.certificate.specs.declared.Certified.{Certified}
 use Rattle.certificate.specs.Judge.{judge}
 use Rattle.certificate.specs.Certified.{certificate_by, strengths_by, longest, room_refusal, certify_refusal, certified_by, certified, CertifiesTable, Certifies}
@@ -73,13 +73,13 @@ module _ (t : Pairwise) (numbers numbers' strengths strengths' sheet sheet' : Li
     (is_best : best ≡ best_by (strength_in t) t.counts.candidates)
     (wrote : Wrote (certificate_in t best) 0 sheet sheet' len) where
   abbrev certificate : List ℕ
-  certificate = certificate_by t.counts.candidates (entry t.counts)
+  certificate = certificate_by t.counts.candidates (number_for t.counts)
 
   not_refused : room_refusal t.counts.candidates (length numbers) (length strengths) (length sheet) ≡ None
   not_refused = parts_room _ _ _ _ room
 
-  is_table : table t.counts ≡ rows t.counts.candidates (entry t.counts)
-  is_table = rows_same t.counts.candidates (cell t.counts.cells) (entry t.counts) (λ x y lx ly. rw (lt-ltb x t.counts.candidates lx, lt-ltb y t.counts.candidates ly) refl)
+  is_table : table t.counts ≡ rows t.counts.candidates (number_for t.counts)
+  is_table = rows_same t.counts.candidates (cell t.counts.cells) (number_for t.counts) (λ x y lx ly. rw (lt-ltb x t.counts.candidates lx, lt-ltb y t.counts.candidates ly) refl)
 
   is_certificate : certificate_in t best ≡ certificate
   unfolding certificate_by
@@ -106,30 +106,30 @@ module _ (t : Pairwise) (numbers numbers' strengths strengths' sheet sheet' : Li
 
 -- the same, said of the ballots whose table it is
 module _ (bytes : List ℕ) (t : Pairwise) (h : PairwiseOf bytes t) where
-  agree : (x y : ℕ) → x < t.counts.candidates → y < t.counts.candidates → entry t.counts x y ≡ count unranked (ballots_of bytes) x y
-  agree x y lx ly = let e = h.candidates in entry_count bytes t h x y (omega arith) (omega arith)
+  agree : (x y : ℕ) → x < t.counts.candidates → y < t.counts.candidates → number_for t.counts x y ≡ count unranked (ballots_of bytes) x y
+  agree x y lx ly = let e = h.candidates in grid_count bytes t h x y (omega arith) (omega arith)
 
   abbrev counts : ℕ → ℕ → ℕ
   counts = count unranked (ballots_of bytes)
 
   -- what agrees for the candidates of the table agrees for those of the ballots
-  counted : {A : Type 0} (f : ℕ → (ℕ → ℕ → ℕ) → A) → f t.counts.candidates (entry t.counts) ≡ f t.counts.candidates counts →
-      f t.counts.candidates (entry t.counts) ≡ f (candidates_in bytes) counts
+  counted : {A : Type 0} (f : ℕ → (ℕ → ℕ → ℕ) → A) → f t.counts.candidates (number_for t.counts) ≡ f t.counts.candidates counts →
+      f t.counts.candidates (number_for t.counts) ≡ f (candidates_in bytes) counts
   counted f e = e ∙ ap (λ k. f k counts) h.candidates
 
-  rows_counted : rows t.counts.candidates (entry t.counts) ≡ rows (candidates_in bytes) counts
-  rows_counted = counted rows (rows_same t.counts.candidates (entry t.counts) counts agree)
+  rows_counted : rows t.counts.candidates (number_for t.counts) ≡ rows (candidates_in bytes) counts
+  rows_counted = counted rows (rows_same t.counts.candidates (number_for t.counts) counts agree)
 
-  strengths_counted : strengths_by t.counts.candidates (entry t.counts) ≡ strengths_by (candidates_in bytes) counts
-  strengths_counted = counted strengths_by (strengths_agreed t.counts.candidates (entry t.counts) counts agree)
+  strengths_counted : strengths_by t.counts.candidates (number_for t.counts) ≡ strengths_by (candidates_in bytes) counts
+  strengths_counted = counted strengths_by (strengths_agreed t.counts.candidates (number_for t.counts) counts agree)
 
   best_counted : best_by (strength_in t) t.counts.candidates ≡ (certified bytes).best
-  best_counted = counted (λ v n. best_by (strength (win_by n) v) v) (best_same_by t.counts.candidates (entry t.counts) counts agree)
+  best_counted = counted (λ v n. best_by (strength (win_by n) v) v) (best_same_by t.counts.candidates (number_for t.counts) counts agree)
 
-  certificate_counted : certificate_by t.counts.candidates (entry t.counts) ≡ certificate_by (candidates_in bytes) counts
-  certificate_counted = counted certificate_by (certificate_agreed t.counts.candidates (entry t.counts) counts agree)
+  certificate_counted : certificate_by t.counts.candidates (number_for t.counts) ≡ certificate_by (candidates_in bytes) counts
+  certificate_counted = counted certificate_by (certificate_agreed t.counts.candidates (number_for t.counts) counts agree)
 
-  certified_counted : certified_by t.ballots t.counts.candidates (entry t.counts) ≡ certified bytes
+  certified_counted : certified_by t.ballots t.counts.candidates (number_for t.counts) ≡ certified bytes
   certified_counted = rw (h.ballots, best_counted, certificate_counted) refl
 
   pub certifies : (numbers numbers' strengths strengths' sheet sheet' : List ℕ) (r : Result Certified Refusal) →

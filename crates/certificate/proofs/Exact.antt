@@ -9,13 +9,13 @@ use Rattle.ballots.proofs.Files.{accepted}
 use Rattle.ballots.proofs.Lending.{neither}
 use Rattle.pairwise.specs.declared.Pairwise.{Pairwise}
 use Rattle.pairwise.specs.Counts.{count, win_by, win}
-use Rattle.pairwise.specs.Grids.{entry}
+use Rattle.pairwise.specs.Grids.{number_for}
 use Rattle.pairwise.specs.Tables.{PairwiseOf}
 use Rattle.pairwise.proofs.Preferences.{count_le}
 use Rattle.paths.specs.Paths.{Strongest}
 use Rattle.paths.specs.Rows.{weakest}
 use Rattle.best.specs.Compared.{BestSet}
-use Rattle.best.proofs.Tabled.{entry_count}
+use Rattle.best.proofs.Tabled.{grid_count}
 use Rattle.certificate.specs.Layout.{Claims, table_bytes, all_pairs, certificate_of}
 use Rattle.certificate.specs.Reading.{four_at, best_place, claims_in}
 use Rattle.certificate.specs.Judge.{unmet, stands, claim_demands, best_demands, demands, judge}
@@ -126,12 +126,12 @@ count_small bytes h x y =
 
 -- the table of the ballots is judged as their counts are
 pub judged : (bytes sheet : List ℕ) (t : Pairwise) → PairwiseOf bytes t →
-    unmet (demands t.counts.candidates (entry t.counts) sheet) ≡ judge bytes sheet
+    unmet (demands t.counts.candidates (number_for t.counts) sheet) ≡ judge bytes sheet
 judged bytes sheet t p =
     let v = p.candidates in
     rw p.accepted
-    (ap unmet (demands_same t.counts.candidates (entry t.counts) (count unranked (ballots_of bytes)) sheet
-    (λ x y lx ly. entry_count bytes t p x y (omega arith) (omega arith))
+    (ap unmet (demands_same t.counts.candidates (number_for t.counts) (count unranked (ballots_of bytes)) sheet
+    (λ x y lx ly. grid_count bytes t p x y (omega arith) (omega arith))
     ∙ ap (λ v. demands v (count unranked (ballots_of bytes)) sheet) v))
 
 -- the ballots are accepted, and all demands are met

@@ -5,7 +5,7 @@ use Rattle.ballots.specs.declared.refusal.Refusal.{Refusal}
 use Rattle.ballots.specs.Lending.{answered}
 use Rattle.ballots.proofs.Products.{length_joined}
 use Rattle.pairwise.specs.declared.Pairwise.{Pairwise}
-use Rattle.pairwise.specs.Grids.{entry}
+use Rattle.pairwise.specs.Grids.{number_for}
 use Rattle.pairwise.specs.Tables.{win_in}
 use Rattle.certificate.specs.declared.reads.Reader.{Reader}
 use Rattle.certificate.specs.Layout.{two_bytes, all_pairs, table_bytes}
@@ -48,7 +48,7 @@ module _ (t : Pairwise) (sheet : List ℕ) (s₀ s₁ : Reader) (front : s₀.at
 
   module _ (passed : Passes (front_bytes t) s₀ s₁ (Ok tt)) where
     pub entries_at : AtEntry t 0 0 s₁
-    entries_at = passed.stop ∙ omega (arith, front, table_length t.counts.candidates (entry t.counts), place_first t.counts.candidates s₁.sheet.now)
+    entries_at = passed.stop ∙ omega (arith, front, table_length t.counts.candidates (number_for t.counts), place_first t.counts.candidates s₁.sheet.now)
 
     -- the entries, and what follows them
     module _ {A : Type 0} {r : Result A Refusal} (p : ℕ) (s₂ : Reader) where

@@ -3,7 +3,7 @@ use Rattle.std.proofs.Common.{◌≡◌, ℕ, zero, suc, ◌+◌, ◌-◌, ◌*�
 use Rattle.std.specs.List.{range_with_len, flat_map}
 use Rattle.std.proofs.lemmas.Bool.{cases_eq, cases_lt, lt-ltb, le-ltb}
 use Rattle.pairwise.specs.declared.Pairwise.{Pairwise}
-use Rattle.pairwise.specs.Grids.{entry}
+use Rattle.pairwise.specs.Grids.{number_for}
 use Rattle.pairwise.specs.Tables.{win_in}
 use Rattle.paths.specs.Paths.{below, strength}
 use Rattle.paths.specs.Rows.{row}
@@ -69,7 +69,7 @@ module _ (w : ℕ → ℕ → ℕ) (v : ℕ) where
 
 -- the parts of the certificate of a table
 pub front_length : (t : Pairwise) → length (front_bytes t) ≡ table_end t.counts.candidates
-front_length t = table_length t.counts.candidates (entry t.counts)
+front_length t = table_length t.counts.candidates (number_for t.counts)
 
 pub entries_fit : (t : Pairwise) → table_end t.counts.candidates + length (entries_bytes t) + 4 ≤ longest t.counts.candidates
 entries_fit t = omega (arith, entries_most (win_in t) t.counts.candidates)

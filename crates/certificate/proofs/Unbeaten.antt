@@ -4,7 +4,7 @@ use Rattle.std.proofs.lemmas.Bool.{cases_eq, le-ltb}
 use Rattle.ballots.specs.Sets.{set_of}
 use Rattle.ballots.proofs.Everybody.{every_same}
 use Rattle.pairwise.specs.declared.grid.Grid.{Grid}
-use Rattle.pairwise.specs.Grids.{entry}
+use Rattle.pairwise.specs.Grids.{number_for}
 use Rattle.best.specs.Compared.{ahead_by, unbeaten_by, best_by}
 use Rattle.certificate.specs.Reading.{claims_in}
 use Rattle.certificate.specs.Progress.{KeptAll}
@@ -25,5 +25,5 @@ best_same s t v h =
     ]))
 
 -- by the strengths that were kept they are those by the strengths that the certificate claims
-pub kept_best : (v : ℕ) (sheet : List ℕ) (g : Grid) → KeptAll v sheet g → best_by (entry g) v ≡ best_by (claims_in v sheet).strength v
-kept_best v sheet g k = best_same (entry g) (claims_in v sheet).strength v k.all
+pub kept_best : (v : ℕ) (sheet : List ℕ) (g : Grid) → KeptAll v sheet g → best_by (number_for g) v ≡ best_by (claims_in v sheet).strength v
+kept_best v sheet g k = best_same (number_for g) (claims_in v sheet).strength v k.all

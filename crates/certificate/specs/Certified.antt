@@ -9,7 +9,7 @@ use Rattle.ballots.specs.Lending.{or_else, answered, written}
 use Rattle.ballots.specs.Refusals.{refusal}
 use Rattle.pairwise.specs.Counts.{count, win_by}
 use Rattle.pairwise.specs.declared.Pairwise.{Pairwise}
-use Rattle.pairwise.specs.Grids.{entry, rows}
+use Rattle.pairwise.specs.Grids.{number_for, rows}
 use Rattle.paths.specs.Paths.{strength}
 use Rattle.paths.specs.Rows.{row}
 use Rattle.paths.specs.Cuts.{cut}
@@ -66,7 +66,7 @@ pub record CertifiesBy (refused : Option Refusal) (ballots v : ℕ) (n : ℕ →
 -- pairwise counts are certified, unless a slice is too short
 abbrev pub CertifiesTable : Pairwise → List ℕ → List ℕ → List ℕ → List ℕ → List ℕ → List ℕ → Result Certified Refusal → Type 0
 CertifiesTable t table table' strengths strengths' sheet sheet' r =
-    CertifiesBy (room_refusal t.counts.candidates (length table) (length strengths) (length sheet)) t.ballots t.counts.candidates (entry t.counts) table table' strengths strengths' sheet sheet' r
+    CertifiesBy (room_refusal t.counts.candidates (length table) (length strengths) (length sheet)) t.ballots t.counts.candidates (number_for t.counts) table table' strengths strengths' sheet sheet' r
 
 -- those of the ballots in the bytes are, unless the call is refused
 abbrev pub CertifiesUnless : Option Refusal → List ℕ → List ℕ → List ℕ → List ℕ → List ℕ → List ℕ → List ℕ → Result Certified Refusal → Type 0

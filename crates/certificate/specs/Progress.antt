@@ -5,7 +5,7 @@ use Rattle.ballots.specs.declared.refusal.Refusal.TheVariants as refuse
 use Rattle.ballots.specs.Lending.{answered}
 use Rattle.pairwise.specs.declared.Pairwise.{Pairwise}
 use Rattle.pairwise.specs.declared.grid.Grid.{Grid}
-use Rattle.pairwise.specs.Grids.{cell, entry}
+use Rattle.pairwise.specs.Grids.{cell, number_for}
 use Rattle.pairwise.specs.Tables.{win_in}
 use Rattle.paths.specs.Found.{Wrote}
 use Rattle.certificate.specs.declared.reads.Reader.{Reader}
@@ -44,7 +44,7 @@ Ends reader r = r ≡ answered (cond (nat_le (length reader.sheet.now) reader.at
 
 -- all that is demanded of a certificate of pairwise counts
 abbrev pub demands_in : Pairwise → List ℕ → List Demand
-demands_in t sheet = demands t.counts.candidates (entry t.counts) sheet
+demands_in t sheet = demands t.counts.candidates (number_for t.counts) sheet
 
 -- the strength that the certificate claims of a pair, and 0 of a candidate with itself
 abbrev pub claimed : ℕ → List ℕ → ℕ → ℕ → ℕ
@@ -79,7 +79,7 @@ Kept v sheet x y cs =
 -- the grid has the strengths that the certificate claims of the pairs of v candidates
 pub record KeptAll (v : ℕ) (sheet : List ℕ) (strengths : Grid) : Type 0 where
   pub candidates : strengths.candidates ≡ v
-  pub all : (x y : ℕ) → x < v → y < v → x ≢ y → entry strengths x y ≡ (claims_in v sheet).strength x y
+  pub all : (x y : ℕ) → x < v → y < v → x ≢ y → number_for strengths x y ≡ (claims_in v sheet).strength x y
 
 -- all entries are read, and the strengths in them are answered
 pub record ReadsEntries (t : Pairwise) (old new : Reader) (r : Result Grid Refusal) : Type 0 where

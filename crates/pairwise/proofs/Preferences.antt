@@ -8,7 +8,7 @@ use Rattle.std.proofs.lemmas.Bool.Decides.{nat_tests}
 use Rattle.ballots.specs.Format.{most_candidates, unranked, rank_of, ranks_of, ballot_bytes}
 use Rattle.pairwise.specs.Counts.{over, count}
 use Rattle.pairwise.specs.Grids.{within}
-use Rattle.pairwise.specs.Tables.{preference}
+use Rattle.pairwise.specs.Tables.{preference, CountedBy}
 
 -- the preference of a ballot between two of its candidates, by their ranks
 preference_by_rank : (p : List ℕ) (x y : ℕ) → x < length p → y < length p → preference p x y ≡ cond (ltb (rank_of (get_or p x 0)) (rank_of (get_or p y 0))) 1 0
@@ -60,10 +60,7 @@ pub counted_none : (v x y : ℕ) → within v (count unranked []) x y ≡ 0
 unfolding count
 counted_none v x y = elim (ltb x v && ltb y v) as (λ t. cond {A = ℕ} t 0 0 ≡ 0) [ true ↦ refl | false ↦ refl ]
 
--- f of each pair is the count of the ballots, and 0 where there is no such pair
-abbrev pub CountedBy : ℕ → List (List ℕ) → (ℕ → ℕ → ℕ) → Type 0
-CountedBy v ps f = (x y : ℕ) → x < most_candidates → y < most_candidates → f x y ≡ within v (count unranked ps) x y
-
+-- no count of the first i ballots is above i
 pub counted_le : (v i : ℕ) (bs : List ℕ) (f : ℕ → ℕ → ℕ) → CountedBy v (first_ballots v bs i) f → (x y : ℕ) → x < most_candidates → y < most_candidates → f x y ≤ i
 counted_le v i bs f h x y hx hy =
     let few : within v (count unranked (first_ballots v bs i)) x y ≤ length (first_ballots v bs i) =

@@ -25,8 +25,8 @@ abbrev pub within : ℕ → (ℕ → ℕ → ℕ) → ℕ → ℕ → ℕ
 within v f x y = cond (nat_lt x v && nat_lt y v) (f x y) 0
 
 -- the number that a grid has for the pair x, y, 0 where there is no such pair
-abbrev pub entry : Grid → ℕ → ℕ → ℕ
-entry g = within g.candidates (cell g.cells)
+abbrev pub number_for : Grid → ℕ → ℕ → ℕ
+number_for g = within g.candidates (cell g.cells)
 
 -- f of each pair of candidates below v, row by row
 abbrev pub rows : ℕ → (ℕ → ℕ → ℕ) → List ℕ

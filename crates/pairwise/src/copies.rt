@@ -1,7 +1,7 @@
 // The numbers of a grid, read, and copied to a slice that the caller lends. A pair is two numbers x and y, as in every
 // definition: a type for it would be no plainer.
 ghost use Rattle.std.specs.Prelude.{◌≡◌};
-ghost use Rattle.pairwise.specs.Grids.{entry, table, Copied};
+ghost use Rattle.pairwise.specs.Grids.{number_for, table, Copied};
 
 use crate::Grid;
 use ballots::{Lent, MOST_CANDIDATES, Refusal};
@@ -9,7 +9,7 @@ use ballots::{Lent, MOST_CANDIDATES, Refusal};
 impl Grid {
     // The number of the pair x, y; 0 where one of them is no candidate.
     pub fn at(&self, x: usize, y: usize) -> u16
-        ensures { result ≡ entry self.now x y }
+        ensures { result ≡ number_for self.now x y }
     {
         if x < self.candidates && y < self.candidates {
             self.cells[x * MOST_CANDIDATES + y]

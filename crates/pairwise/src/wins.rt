@@ -1,7 +1,7 @@
 // What the pairwise counts say of two candidates.
 ghost use Rattle.std.specs.Prelude.{◌≡◌};
 ghost use Rattle.ballots.specs.declared.refusal.Lent.TheVariants as lent;
-ghost use Rattle.pairwise.specs.Grids.{entry, table, Copied};
+ghost use Rattle.pairwise.specs.Grids.{number_for, table, Copied};
 ghost use Rattle.pairwise.specs.Tables.{win_in};
 
 use crate::Pairwise;
@@ -10,7 +10,7 @@ use ballots::{Lent, Refusal};
 impl Pairwise {
     // n(x, y): how many ballots put x over y.
     pub fn preferring(&self, x: usize, y: usize) -> u16
-        ensures { result ≡ entry self.now.counts x y }
+        ensures { result ≡ number_for self.now.counts x y }
     {
         self.counts.at(x, y)
     }

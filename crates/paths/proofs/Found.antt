@@ -24,8 +24,8 @@ module _ (t : Pairwise) (v : ℕ) (cs : List ℕ) (same : v ≡ t.counts.candida
     | inr xv ↦ grind (arith, nat_tests)
   ]
 
-  pub entry_strength : (x y : ℕ) → StrengthOf t x y (within v (cell cs) x y)
-  entry_strength x y =
+  pub grid_strength : (x y : ℕ) → StrengthOf t x y (within v (cell cs) x y)
+  grid_strength x y =
       record { is = entry_is x y; strongest = λ e. rw (entry_is x y) (strength_strongest (win_in t) t.counts.candidates x y e) }
 
   pub table_is : rows v (cell cs) ≡ strength_table t

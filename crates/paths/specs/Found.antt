@@ -2,7 +2,7 @@
 use Rattle.std.specs.Prelude.{◌≡◌, ℕ, ◌+◌, ◌<◌, true, cond, List, [], ◌++◌, length, take, drop, nat_le}
 use Rattle.pairwise.specs.declared.Pairwise.{Pairwise}
 use Rattle.pairwise.specs.declared.grid.Grid.{Grid}
-use Rattle.pairwise.specs.Grids.{entry}
+use Rattle.pairwise.specs.Grids.{number_for}
 use Rattle.pairwise.specs.Tables.{win_in}
 use Rattle.paths.specs.Paths.{below, Strongest, pair}
 use Rattle.paths.specs.Rows.{ShowsStrongest, row}
@@ -18,7 +18,7 @@ pub record StrengthOf (t : Pairwise) (x y s : ℕ) : Type 0 where
 pub record GridOf (t : Pairwise) (g : Grid) : Type 0 where
   pub candidates : g.candidates ≡ t.counts.candidates
   pub cells : Strong t g.cells
-  pub each : entry g ≡ strength_in t
+  pub each : number_for g ≡ strength_in t
 
 -- the set is the cut of x and y: no win that is stronger than the strength leaves it where they are two different candidates, else it is empty
 pub record CutOf (t : Pairwise) (x y set : ℕ) : Type 0 where

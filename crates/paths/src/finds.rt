@@ -1,7 +1,7 @@
 // Finding the strengths.
 ghost use Rattle.std.specs.Prelude.{◌≡◌, ℕ, ◌^◌, ◌<◌, ◌≤◌};
 ghost use Rattle.ballots.specs.Format.{most_candidates};
-ghost use Rattle.pairwise.specs.Grids.{cell, entry};
+ghost use Rattle.pairwise.specs.Grids.{cell, number_for};
 ghost use Rattle.paths.specs.Found.{StrengthOf};
 ghost use Rattle.paths.specs.Phases.{Wins, Tried, Cleared};
 
@@ -48,7 +48,7 @@ impl Strengths {
     // The strengths by the counts: for each pair of candidates that of the strongest path, 0 for a candidate with itself.
     pub fn of(pairwise: &Pairwise) -> Strengths
         ensures same { result.pairwise ≡ pairwise.now }
-        ensures found { (x y : ℕ) → StrengthOf pairwise.now x y (entry result.strengths x y) }
+        ensures found { (x y : ℕ) → StrengthOf pairwise.now x y (number_for result.strengths x y) }
     {
         let candidates = pairwise.counts.candidates;
         let mut cells = wins(pairwise);

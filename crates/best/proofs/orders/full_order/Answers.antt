@@ -1,7 +1,7 @@
 use Rattle.std.proofs.Common.{◌≡◌, ℕ, Bool, ◌&&◌, List, Option, Some, None, ap, ◌∙◌, arith}
 use Rattle.pairwise.specs.declared.Pairwise.{Pairwise}
 use Rattle.pairwise.specs.declared.grid.Grid.{Grid}
-use Rattle.pairwise.specs.Grids.{entry}
+use Rattle.pairwise.specs.Grids.{number_for}
 use Rattle.pairwise.specs.Tables.{win_in}
 use Rattle.paths.specs.Found.{GridOf}
 use Rattle.paths.specs.Strengths.{strength_in}
@@ -19,7 +19,7 @@ loop-place-init c =
 
 -- what `next` answers of the strengths, in the words of the definitions
 next_is : (t : Pairwise) (g : Grid) (keys : List ℕ) (left : List Bool) (r : Option ℕ) → GridOf t g →
-    r ≡ next_by (entry g) g.candidates (before_by keys) (marked left) →
+    r ≡ next_by (number_for g) g.candidates (before_by keys) (marked left) →
     Found (before_by keys) (λ z. marked left z && unbeaten_by (strength_in t) t.counts.candidates (marked left) z) t.counts.candidates r
 next_is t g keys left r h e =
     next_found (win_in t) t.counts.candidates (before_by keys) t.counts.few (marked left) r (by_keys keys)

@@ -1,13 +1,13 @@
 use Rattle.std.proofs.Common.{ℕ, List, ap, arith}
 use Rattle.std.proofs.lemmas.Result.{err_from_is_err_and}
 use Rattle.pairwise.specs.declared.Pairwise.{Pairwise}
-use Rattle.pairwise.specs.Grids.{entry}
+use Rattle.pairwise.specs.Grids.{number_for}
 use Rattle.certificate.specs.Layout.{two_bytes}
 use Rattle.certificate.proofs.Moves.{passed_pair, pair_stopped, row_passed}
 use Rattle.certificate.proofs.tables.check_table.Goals as goal
 
 abbrev count_bytes : Pairwise → ℕ → ℕ → List ℕ
-count_bytes t x y = two_bytes (entry t.counts x y)
+count_bytes t x y = two_bytes (number_for t.counts x y)
 
 pub returns-in_err-check_number : goal.returns-in_err-check_number
 returns-in_err-check_number c =

@@ -1,6 +1,6 @@
 use Rattle.std.proofs.Common.{ℕ, [], ◌∷◌, List, length, ap, ◌∙◌, arith}
 use Rattle.pairwise.specs.declared.Pairwise.{Pairwise}
-use Rattle.pairwise.specs.Grids.{entry}
+use Rattle.pairwise.specs.Grids.{number_for}
 use Rattle.certificate.specs.Layout.{two_bytes}
 use Rattle.certificate.proofs.Writing.{put_as, pair_fits, pair_put, row_put}
 use Rattle.certificate.proofs.writes.write_table.Goals as goal
@@ -9,7 +9,7 @@ abbrev head : Pairwise → List ℕ
 head t = t.counts.candidates ∷ []
 
 abbrev part : Pairwise → ℕ → ℕ → List ℕ
-part t x y = two_bytes (entry t.counts x y)
+part t x y = two_bytes (number_for t.counts x y)
 
 pub put-requires-in-loop-y : goal.put-requires-in-loop-y
 put-requires-in-loop-y c =

@@ -2,7 +2,8 @@ use Rattle.std.proofs.Common.{◌≡◌, ◌≤◌, length}
 use Rattle.ballots.specs.Format.{candidates_in, ballots_in}
 use Rattle.ballots.specs.Reading.{ballots_from, to_come}
 use Rattle.pairwise.specs.Counters.{counted_by}
-use Rattle.pairwise.proofs.Preferences.{first_ballots, CountedBy}
+use Rattle.pairwise.specs.Tables.{CountedBy}
+use Rattle.pairwise.proofs.Preferences.{first_ballots}
 use Rattle.pairwise.proofs.tallies.tally.Given as goal
 
 abbrev pub invariant-loop-ballot : goal.invariant-loop-ballot

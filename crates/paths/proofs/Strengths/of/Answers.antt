@@ -1,6 +1,6 @@
 use Rattle.std.proofs.Common.{◌≡◌, refl, arith}
 use Rattle.paths.proofs.Phases.{first_phase, next_pair, earlier, all_strengths}
-use Rattle.paths.proofs.Found.{entry_strength}
+use Rattle.paths.proofs.Found.{grid_strength}
 use Rattle.paths.proofs.Strengths.of.Goals as goal
 
 pub loop-middle-init : goal.loop-middle-init
@@ -25,4 +25,4 @@ returns c =
     let t = c.args.pairwise.now in
     let done : c.loop-middle.middle ≡ t.counts.candidates = omega arith in
     let strong = all_strengths t c.loop-middle.invariant done c.clear_diagonal.new.cells c.clear_diagonal.ensures in
-    record { same = refl; found = entry_strength t t.counts.candidates c.clear_diagonal.new.cells refl strong }
+    record { same = refl; found = grid_strength t t.counts.candidates c.clear_diagonal.new.cells refl strong }
