@@ -1,8 +1,9 @@
 -- Sets of candidates as bits: what a set made of a test holds, and one more candidate.
-use Rattle.std.proofs.Common.{◌≡◌, ℕ, zero, suc, ◌+◌, ◌-◌, ◌*◌, ◌/◌, ◌%◌, ◌^◌, ◌<◌, ◌≤◌, Bool, true, false, cond, eqb, sym, ap, ◌∙◌, inl, inr, add-zero, add-one, arith, pow_mono}
+use Rattle.std.proofs.Common.{◌≡◌, ℕ, zero, suc, ◌+◌, ◌-◌, ◌*◌, ◌/◌, ◌%◌, ◌^◌, ◌<◌, ◌≤◌, Bool, true, false, cond, eqb, sym, ap, ◌∙◌, inl, inr, add-zero, add-one, arith, pow_mono, refl, List, get_or, take, min, length}
 use native.Mathlib.Nat.{add-mul-div_right, add-div_right, div-eq_of_lt}
 use lib.Bits.{bit_or}
 use Rattle.std.proofs.lemmas.Nat.{one_shl, or_shifted, or_comm, and_mask, pow_pos, pow-add, shr-shr, shr_below}
+use Rattle.std.proofs.lemmas.List.{get_or-take, length-take}
 use Rattle.std.proofs.lemmas.Bool.{cases_Bool, cases_eq}
 use Rattle.std.proofs.lemmas.Bool.Decides.{nat_tests}
 use Rattle.ballots.specs.Sets.{holds, set_of}
@@ -41,6 +42,19 @@ set_of_lt f zero = omega arith
 set_of_lt f (suc n) =
     let h = set_of_lt f n in
     rw (pow_more n) (elim (cases_Bool (f n)) [ inl t ↦ rw t (omega arith) | inr t ↦ rw t (omega (arith, pow_pos n)) ])
+
+-- tests that agree have one set
+set_of_same : (f g : ℕ → Bool) (n : ℕ) → ((x : ℕ) → x < n → f x ≡ g x) → set_of f n ≡ set_of g n
+set_of_same f g zero h = refl
+set_of_same f g (suc n) h = let e = h n (omega arith) in let t = set_of_same f g n (λ x l. h x (omega arith)) in rw (e, t)
+
+-- the set of the first v marks, where each is what the test says
+pub set_of_marks :
+    (f : ℕ → Bool) (marks : List Bool) (v : ℕ) → v ≤ 32 → v ≤ length marks → ((x : ℕ) → x < v → get_or marks x false ≡ f x) →
+    set_of (λ x. get_or (take v marks) x false) (min (length (take v marks)) 32) ≡ set_of f v
+set_of_marks f marks v room long each =
+    ap (set_of (λ x. get_or (take v marks) x false)) (simp (length-take) (omega arith))
+    ∙ set_of_same (λ x. get_or (take v marks) x false) f v (λ x l. get_or-take v marks x false l ∙ each x l)
 
 -- a candidate below n is in the set exactly if it passes the test
 pub holds_set_of : (f : ℕ → Bool) (n x : ℕ) → x < n → holds (set_of f n) x ≡ f x

@@ -1,5 +1,5 @@
 // Sets of candidates, as the bits of a number: so they stand in certificates.
-ghost use Rattle.std.specs.Prelude.{◌≡◌, ℕ, Bool, min};
+ghost use Rattle.std.specs.Prelude.{◌≡◌, false, length, min, slice_index_or};
 ghost use Rattle.ballots.specs.Sets.{holds, set_of};
 
 // How many candidates a set has room for.
@@ -12,14 +12,13 @@ pub fn holds(set: u32, candidate: usize) -> bool
     candidate < ROOM && (set >> candidate) & 1 == 1
 }
 
-// The set of those of so many candidates that pass the test, as far as there is room.
-pub fn set_of<F: Fn(usize) -> bool>(candidates: usize, test: F) -> u32
-    requires { F.IsAlwaysCallable test }
-    ensures { (passes : ℕ → Bool) → ((x : ℕ) (b : Bool) → F.post test x b → b ≡ passes x) → result ≡ set_of passes (min candidates 32) }
+// The set of the candidates that are marked, as far as there is room.
+pub fn set_of(marks: &[bool]) -> u32
+    ensures { result ≡ set_of (λ x. slice_index_or marks.now x false) (min (length marks.now) 32) }
 {
     let mut set = 0;
-    for x in 0..candidates.min(ROOM) {
-        if test(x) {
+    for (x, marked) in marks[..marks.len().min(ROOM)].iter().enumerate() {
+        if *marked {
             set |= 1 << x;
         }
     }

@@ -11,6 +11,7 @@ ghost use Rattle.best.specs.Compared.{ahead_by, unbeaten_by, best_by, BestSet};
 use ballots::{MOST_CANDIDATES, set_of};
 use pairwise::Grid;
 use paths::Strengths;
+use std::array;
 
 // Whether x is ahead of y by these strengths: the strength from x to y is above the strength back.
 fn ahead_by(strengths: &Grid, x: usize, y: usize) -> bool
@@ -39,7 +40,8 @@ pub fn best_by(strengths: &Grid) -> u32
     ensures { result ≡ best_by (number_for strengths.now) strengths.now.candidates }
 {
     let everybody = [true; MOST_CANDIDATES];
-    set_of(strengths.candidates, |x| unbeaten(strengths, &everybody, x))
+    let best: [bool; MOST_CANDIDATES] = array::from_fn(|x| unbeaten(strengths, &everybody, x));
+    set_of(&best[..strengths.candidates])
 }
 
 // The set of the best: the candidates of whom nobody is ahead.

@@ -5,7 +5,8 @@ ghost use Rattle.paths.specs.Cuts.{nearer};
 ghost use Rattle.paths.specs.Found.{CutOf};
 
 use crate::Strengths;
-use ballots::set_of;
+use ballots::{MOST_CANDIDATES, set_of};
+use std::array;
 
 impl Strengths {
     // Whether z is x, or x reaches z more strongly than y.
@@ -24,6 +25,7 @@ impl Strengths {
         if x >= candidates || y >= candidates || x == y {
             return 0;
         }
-        set_of(candidates, |z| self.is_nearer(x, y, z))
+        let nearer: [bool; MOST_CANDIDATES] = array::from_fn(|z| self.is_nearer(x, y, z));
+        set_of(&nearer[..candidates])
     }
 }
