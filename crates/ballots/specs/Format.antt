@@ -1,18 +1,21 @@
 -- The format of ballots: what stands where in the bytes, and the ballots that they hold. Assumes nothing.
-use Rattle.std.specs.Prelude.{ℕ, ◌+◌, ◌*◌, ◌/◌, ◌%◌, cond, List, ◌∷◌, map, length, take, drop, ◌==◌, slice_index}
+use Rattle.std.specs.Prelude.{ℕ, ◌+◌, ◌*◌, List, [], ◌∷◌, ◌++◌, map, length, take, drop, slice_index}
+use Rattle.std.specs.Int.{w16, to_le_bytes, from_le_bytes}
 use Rattle.std.specs.List.{range_with_len, flat_map}
+use Rattle.ballots.specs.declared.file.TheConstants.{MOST_CANDIDATES, MOST_BALLOTS, HEADER_LENGTH}
+use Rattle.ballots.specs.Ballots.{ranks_of}
 
 -- the greatest number of candidates
 abbrev pub most_candidates : ℕ
-most_candidates = 30
+most_candidates = MOST_CANDIDATES
+
+-- the greatest number of ballots
+abbrev pub most_ballots : ℕ
+most_ballots = MOST_BALLOTS
 
 -- how many bytes stand before the ballots
 abbrev pub header_length : ℕ
-header_length = 3
-
--- what an unranked candidate is read as: below every rank
-abbrev pub unranked : ℕ
-unranked = 256
+header_length = HEADER_LENGTH
 
 -- the number of candidates
 abbrev pub candidates_in : List ℕ → ℕ
@@ -20,7 +23,7 @@ candidates_in bs = slice_index bs 0
 
 -- the number of ballots, low byte first
 abbrev pub ballots_in : List ℕ → ℕ
-ballots_in bs = slice_index bs 1 + 256 * slice_index bs 2
+ballots_in bs = from_le_bytes w16 (slice_index bs 1 ∷ slice_index bs 2 ∷ [])
 
 -- how many bytes the header and the ballots take
 abbrev pub whole_length : List ℕ → ℕ
@@ -30,18 +33,10 @@ whole_length bs = header_length + ballots_in bs * candidates_in bs
 abbrev pub ballot_bytes : ℕ → List ℕ → ℕ → List ℕ
 ballot_bytes v bs i = take v (drop (header_length + i * v) bs)
 
--- a rank as it is read
-abbrev pub rank_of : ℕ → ℕ
-rank_of b = cond (b == 0) unranked b
-
--- a ballot as its candidates' ranks
-abbrev pub ranks_of : List ℕ → List ℕ
-ranks_of p = map rank_of p
-
 -- the ballots that the bytes hold, first to last
 abbrev pub ballots_of : List ℕ → List (List ℕ)
 ballots_of bs = map (λ i. ranks_of (ballot_bytes (candidates_in bs) bs i)) (range_with_len 0 (ballots_in bs))
 
 -- the file of ballots of v candidates, each given by its bytes
 abbrev pub file_of : ℕ → List (List ℕ) → List ℕ
-file_of v ps = v ∷ (length ps % 256 ∷ (length ps / 256 ∷ flat_map (λ p. p) ps))
+file_of v ps = v ∷ (to_le_bytes w16 (length ps) ++ flat_map (λ p. p) ps)

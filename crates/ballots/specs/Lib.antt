@@ -1,7 +1,9 @@
+pub mod Ballots
 pub mod Format
 pub mod Sets
 pub mod Refusals
-pub mod Lending
-pub mod Reading
+pub mod Loans
+pub mod Files
 pub mod Strikes
 pub mod Laws
+pub mod Members

@@ -7,7 +7,8 @@ pub fn votes_are_accepted()
     ensures only { OnlyVotesAccepted }
 {}
 
-// Where a file is accepted and somebody stays, the struck file is accepted, and says the same of those that stay.
+// Where a file is accepted and somebody stays, the struck file is accepted and says the same of
+// those that stay.
 pub fn striking_keeps_ranks()
     ensures { StrikeKeepsRanks }
 {}

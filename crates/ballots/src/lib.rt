@@ -1,15 +1,18 @@
-// The ballots of a vote, as bytes: the header, one ballot after the other, candidates struck off all of them, and why bytes are refused.
+// The ballots of a vote, as bytes: a header, and one ballot after the other. Candidates struck off
+// all of them, sets of candidates, and why bytes are refused.
 #![tactic(auto)]
 
+mod ballot;
+mod candidate_set;
 mod file;
 pub mod laws;
-mod reads;
+mod members;
 mod refusal;
-mod sets;
-mod strikes;
+mod striking;
 
-pub use file::{BallotFile, Ballots, MOST_CANDIDATES};
-pub use reads::read;
+pub use ballot::Ballot;
+pub use candidate_set::{Bits, CandidateSet, ROOM};
+pub use file::{BallotFile, Ballots, MOST_BALLOTS, MOST_CANDIDATES};
+pub use members::Members;
 pub use refusal::{Lent, Refusal};
-pub use sets::{holds, set_of};
-pub use strikes::strike;
+pub use striking::strike;

@@ -1,15 +1,16 @@
 // Why something is refused, and where.
 ghost use Rattle.std.specs.Prelude.{◌≡◌, Some};
-ghost use Rattle.ballots.specs.Refusals.{number_of, place_of, told};
+ghost use Rattle.ballots.specs.Refusals.{number_of, place_of, text_of};
 
+use crate::ROOM;
 use std::error::Error;
 use std::fmt;
 
 // The place of a pair of candidates is `from × PAIR_STRIDE + to`.
-const PAIR_STRIDE: usize = 32;
+const PAIR_STRIDE: usize = ROOM;
 
 // The place of the set of the best, behind that of every pair.
-const BEST_PLACE: usize = 1023;
+const BEST_PLACE: usize = PAIR_STRIDE * PAIR_STRIDE - 1;
 
 // A slice that the caller lends to be written. The place of each in a refusal is its place here.
 #[derive(Clone, Copy, PartialEq, Eq, Debug)]
@@ -34,7 +35,8 @@ pub enum Refusal {
     Table { at: usize },
     // A certificate's path is none, or not of the strength.
     Path { from: u8, to: u8 },
-    // A certificate's cut does not part the pair, has a bit that is no candidate's, or has too strong a win across.
+    // A certificate's cut does not part the pair, has a bit that is no candidate's, or has too
+    // strong a win across.
     Cut { from: u8, to: u8 },
     // A certificate's set is not that of the best.
     Best,
@@ -72,9 +74,8 @@ impl Refusal {
     }
 }
 
-// By hand, since what a derive prints is not stated.
 impl fmt::Display for Refusal {
-    ghost output = { λ r. Some (told r) };
+    ghost output = { λ r. Some (text_of r) };
 
     fn fmt<W: fmt::Write>(&self, f: &mut fmt::Formatter<W>) -> fmt::Result {
         let number = self.number();

@@ -1,4 +1,4 @@
-use Rattle.ballots.proofs.Struck.{strike_keeps_ranks}
+use Rattle.ballots.proofs.StruckFiles.{strike_keeps_ranks}
 use Rattle.ballots.proofs.laws.striking_keeps_ranks.Goals as goal
 
 pub returns : goal.returns

@@ -1,4 +1,4 @@
-use Rattle.ballots.proofs.Files.{votes_accepted, only_votes_accepted}
+use Rattle.ballots.proofs.Votes.{votes_accepted, only_votes_accepted}
 use Rattle.ballots.proofs.laws.votes_are_accepted.Goals as goal
 
 pub returns : goal.returns
