@@ -1,31 +1,38 @@
 -- The counts, one ballot after the other.
-use Rattle.std.proofs.Common.{◌≡◌, ℕ, suc, ◌+◌, ◌<◌, ◌≤◌, Bool, true, false, cond, ◌&&◌, ltb, List, [], ◌∷◌, ◌++◌, map, length, get_or, sym, refl, ap, inl, inr, arith}
+use Rattle.std.proofs.Common.{◌≡◌, ℕ, suc, ◌+◌, ◌<◌, ◌≤◌, true, false, cond, ltb, List, [], ◌∷◌, ◌++◌, map, length, get_or, sym, refl, ap, ◌∙◌, inl, inr, arith}
 use Rattle.std.specs.List.{range_with_len}
 use Rattle.std.proofs.lemmas.List.FromFn.{map-range_with_len_more, length-map-range_with_len}
 use Rattle.std.proofs.lemmas.List.{get_or-map}
-use Rattle.std.proofs.lemmas.Bool.{cases_lt, lt-ltb, le-ltb}
+use Rattle.std.proofs.lemmas.Bool.{cases_lt, le-ltb}
 use Rattle.std.proofs.lemmas.Bool.Decides.{nat_tests}
-use Rattle.ballots.specs.Format.{most_candidates, unranked, rank_of, ranks_of, ballot_bytes}
-use Rattle.pairwise.specs.Counts.{over, count}
+use Rattle.ballots.specs.Format.{most_candidates, candidates_in, ballot_bytes}
+use Rattle.ballots.specs.Ballots.{ranks_of, rank_of, unranked, over}
+use Rattle.pairwise.specs.Counts.{count}
 use Rattle.pairwise.specs.Grids.{within}
-use Rattle.pairwise.specs.Tables.{preference, CountedBy}
+use Rattle.pairwise.specs.Pairwise.{preference}
+use Rattle.pairwise.proofs.Cells.{within-below, within_le, within-add}
 
--- the preference of a ballot between two of its candidates, by their ranks
-preference_by_rank : (p : List ℕ) (x y : ℕ) → x < length p → y < length p → preference p x y ≡ cond (ltb (rank_of (get_or p x 0)) (rank_of (get_or p y 0))) 1 0
+-- what a ballot says of a pair, as a number
+abbrev pub says : List ℕ → ℕ → ℕ → ℕ
+says p x y = cond (over unranked p x y) 1 0
+
+says_le : (p : List ℕ) (x y : ℕ) → says p x y ≤ 1
+says_le p x y = elim (over unranked p x y) as (λ b. cond b 1 0 ≤ 1) [ true ↦ omega arith | false ↦ omega arith ]
+
+-- the preference of a ballot is one at most
+pub preference_le : (p : List ℕ) (x y : ℕ) → preference p x y ≤ 1
+preference_le p x y = within_le (length p) x y 1 (says (ranks_of p)) (says_le (ranks_of p) x y)
+
+-- between two of its candidates it goes by their ranks
+preference_by_rank : (p : List ℕ) (x y : ℕ) → x < length p → y < length p →
+    preference p x y ≡ cond (ltb (rank_of (get_or p x 0)) (rank_of (get_or p y 0))) 1 0
 unfolding over
-preference_by_rank p x y h k = rw (lt-ltb x (length p) h, lt-ltb y (length p) k, get_or-map rank_of p x 0 unranked h, get_or-map rank_of p y 0 unranked k)
+preference_by_rank p x y h k =
+    within-below (length p) x y (says (ranks_of p)) h k
+    ∙ rw (get_or-map rank_of p x 0 unranked h, get_or-map rank_of p y 0 unranked k)
 
 preference_none : (p : List ℕ) (x y : ℕ) → length p ≤ y → preference p x y ≡ 0
 preference_none p x y h = grind (arith, nat_tests)
-
-one_at_most : (b : Bool) → cond b 1 0 ≤ 1
-one_at_most true = omega arith
-one_at_most false = omega arith
-
--- a ballot adds one at most
-pub preference_le : (p : List ℕ) (x y : ℕ) → preference p x y ≤ 1
-preference_le p x y = elim (ltb x (length p) && ltb y (length p)) as (λ t. cond t (cond (over unranked (ranks_of p) x y) 1 0) 0 ≤ 1)
-    [ true ↦ one_at_most (over unranked (ranks_of p) x y) | false ↦ omega arith ]
 
 one_less : (a b c d : ℕ) → a + 1 ≡ c → b + 1 ≡ d → ltb a b ≡ ltb c d
 one_less a b c d e f = grind (arith, nat_tests)
@@ -41,7 +48,7 @@ preference_by_key p ks x y ranked past h =
     ]
 
 -- one ballot more
-count_push : (ps : List (List ℕ)) (p : List ℕ) (x y : ℕ) → count unranked (ps ++ p ∷ []) x y ≡ count unranked ps x y + cond (over unranked p x y) 1 0
+count_push : (ps : List (List ℕ)) (p : List ℕ) (x y : ℕ) → count unranked (ps ++ p ∷ []) x y ≡ count unranked ps x y + says p x y
 unfolding count
 count_push [] p x y = omega arith
 count_push (q ∷ ps) p x y = omega (arith, count_push ps p x y)
@@ -50,38 +57,52 @@ count_push (q ∷ ps) p x y = omega (arith, count_push ps p x y)
 pub count_le : (ps : List (List ℕ)) (x y : ℕ) → count unranked ps x y ≤ length ps
 unfolding count
 count_le [] x y = omega arith
-count_le (q ∷ ps) x y = omega (arith, count_le ps x y, one_at_most (over unranked q x y))
+count_le (q ∷ ps) x y = omega (arith, count_le ps x y, says_le q x y)
 
--- the first i ballots of v candidates that the bytes hold
-abbrev pub first_ballots : ℕ → List ℕ → ℕ → List (List ℕ)
-first_ballots v bs i = map (λ j. ranks_of (ballot_bytes v bs j)) (range_with_len 0 i)
+-- f of each pair is n(x, y) of the ballots, and 0 where there is no such pair
+abbrev pub CountedBy : ℕ → List (List ℕ) → (ℕ → ℕ → ℕ) → Type 0
+CountedBy v ps f = (x y : ℕ) → x < most_candidates → y < most_candidates → f x y ≡ within v (count unranked ps) x y
 
 pub counted_none : (v x y : ℕ) → within v (count unranked []) x y ≡ 0
-unfolding count
-counted_none v x y = elim (ltb x v && ltb y v) as (λ t. cond {A = ℕ} t 0 0 ≡ 0) [ true ↦ refl | false ↦ refl ]
-
--- no count of the first i ballots is above i
-pub counted_le : (v i : ℕ) (bs : List ℕ) (f : ℕ → ℕ → ℕ) → CountedBy v (first_ballots v bs i) f → (x y : ℕ) → x < most_candidates → y < most_candidates → f x y ≤ i
-counted_le v i bs f h x y hx hy =
-    let few : within v (count unranked (first_ballots v bs i)) x y ≤ length (first_ballots v bs i) =
-    elim (ltb x v && ltb y v) as (λ t. cond t (count unranked (first_ballots v bs i) x y) 0 ≤ length (first_ballots v bs i)) [ true ↦ count_le (first_ballots v bs i) x y | false ↦ omega arith ] in
-    omega (arith, h x y hx hy, length-map-range_with_len (λ j. ranks_of (ballot_bytes v bs j)) 0 i)
+counted_none v x y = omega (arith, within_le v x y 0 (count unranked []) (count_le [] x y))
 
 -- counts to which the preferences of a ballot were added count one ballot more
 pub counted_push : (v : ℕ) (ps : List (List ℕ)) (p : List ℕ) (f g : ℕ → ℕ → ℕ) → length p ≡ v → CountedBy v ps f
     → ((x y : ℕ) → x < most_candidates → y < most_candidates → g x y ≡ f x y + preference p x y)
     → CountedBy v (ps ++ ranks_of p ∷ []) g
 counted_push v ps p f g long h step x y hx hy =
-    let push : within v (count unranked (ps ++ ranks_of p ∷ [])) x y ≡ within v (count unranked ps) x y + preference p x y =
-    rw long (elim (ltb x v && ltb y v) as (λ t. cond t (count unranked (ps ++ ranks_of p ∷ []) x y) 0 ≡ cond t (count unranked ps x y) 0 + cond t (cond (over unranked (ranks_of p) x y) 1 0) 0)
-    [ true ↦ count_push ps (ranks_of p) x y | false ↦ omega arith ]) in
-    omega (arith, step x y hx hy, h x y hx hy, push)
+    let all = count unranked (ps ++ ranks_of p ∷ []) in
+    let push = within-add v x y (count unranked ps) (says (ranks_of p)) all (count_push ps (ranks_of p) x y) in
+    let same : preference p x y ≡ within v (says (ranks_of p)) x y = ap (λ n. within n (says (ranks_of p)) x y) long in
+    omega (arith, step x y hx hy, h x y hx hy, push, same)
 
-pub counted_more : (v i : ℕ) (bs p : List ℕ) (f g : ℕ → ℕ → ℕ) → p ≡ ballot_bytes v bs i → length p ≡ v → CountedBy v (first_ballots v bs i) f
+-- the first i ballots of a file
+abbrev pub first_ballots : List ℕ → ℕ → List (List ℕ)
+first_ballots bs i = map (λ j. ranks_of (ballot_bytes (candidates_in bs) bs j)) (range_with_len 0 i)
+
+-- f counts the first i ballots of a file
+abbrev pub CountedFirst : List ℕ → ℕ → (ℕ → ℕ → ℕ) → Type 0
+CountedFirst bs i = CountedBy (candidates_in bs) (first_ballots bs i)
+
+-- no count of theirs is above i
+pub counted_le : (bs : List ℕ) (i : ℕ) (f : ℕ → ℕ → ℕ) → CountedFirst bs i f →
+    (x y : ℕ) → x < most_candidates → y < most_candidates → f x y ≤ i
+counted_le bs i f h x y hx hy =
+    let ps = first_ballots bs i in
+    omega (
+      arith,
+      h x y hx hy,
+      within_le (candidates_in bs) x y (length ps) (count unranked ps) (count_le ps x y),
+      length-map-range_with_len (λ j. ranks_of (ballot_bytes (candidates_in bs) bs j)) 0 i,
+    )
+
+pub counted_more : (bs p : List ℕ) (i : ℕ) (f g : ℕ → ℕ → ℕ) → p ≡ ballot_bytes (candidates_in bs) bs i
+    → length p ≡ candidates_in bs → CountedFirst bs i f
     → ((x y : ℕ) → x < most_candidates → y < most_candidates → g x y ≡ f x y + preference p x y)
-    → CountedBy v (first_ballots v bs (i + 1)) g
-counted_more v i bs p f g e long h step =
-    rw (map-range_with_len_more (λ j. ranks_of (ballot_bytes v bs j)) 0 i i (omega arith), sym e) (counted_push v (first_ballots v bs i) p f g long h step)
+    → CountedFirst bs (i + 1) g
+counted_more bs p i f g e long h step =
+    rw (map-range_with_len_more (λ j. ranks_of (ballot_bytes (candidates_in bs) bs j)) 0 i i (omega arith), sym e)
+    (counted_push (candidates_in bs) (first_ballots bs i) p f g long h step)
 
 -- as many ballots, each putting u over v exactly if the other puts x over y, give the same count
 pub count_same :

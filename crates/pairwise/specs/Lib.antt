@@ -1,7 +1,6 @@
 pub mod Counts
 pub mod Grids
-pub mod Tables
-pub mod Recent
-pub mod Counters
-pub mod Additions
+pub mod Pairs
+pub mod Pairwise
+pub mod inner
 pub mod Laws

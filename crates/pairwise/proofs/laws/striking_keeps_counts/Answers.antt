@@ -1,4 +1,4 @@
-use Rattle.pairwise.proofs.Struck.{struck_counts}
+use Rattle.pairwise.proofs.StruckCounts.{struck_counts}
 use Rattle.pairwise.proofs.laws.striking_keeps_counts.Goals as goal
 
 pub returns : goal.returns

@@ -1,7 +1,7 @@
 use Rattle.std.proofs.Common.{◌+◌, ◌*◌, arith}
 use Rattle.ballots.specs.Format.{most_candidates}
 use Rattle.pairwise.specs.Grids.{cells}
-use Rattle.pairwise.specs.Recent.{row_length}
+use Rattle.pairwise.specs.inner.Recent.{row_length}
 use Rattle.pairwise.proofs.Cells.{zeros}
 use Rattle.pairwise.proofs.counter.Counter.new.Goals as goal
 

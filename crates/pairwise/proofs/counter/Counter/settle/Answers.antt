@@ -1,6 +1,6 @@
 use Rattle.std.proofs.Common.{◌+◌, ◌*◌, arith}
 use Rattle.ballots.specs.Format.{most_candidates}
-use Rattle.pairwise.specs.Recent.{row_length}
+use Rattle.pairwise.specs.inner.Recent.{row_length}
 use Rattle.pairwise.proofs.Cells.{zeros}
 use Rattle.pairwise.proofs.counter.Counter.settle.Goals as goal
 
