@@ -2,32 +2,30 @@
 use Rattle.std.proofs.Common.{◌≡◌, ℕ, ◌<◌, ◌≤◌, min, Bool, true, false, eqb, ltb, ◌⊎◌, List, [], ◌∷◌, sym, refl, ◌∙◌, inl, inr, arith}
 use Rattle.std.proofs.lemmas.Bool.{cases_Bool, both_ways, or_cases, or_parts, or_left, or_from, eqb-true, eqb-false, eq-eqb, ne_eqb, ltb-true, ltb-false, le-ltb}
 use Rattle.ballots.specs.Sets.{holds, set_of}
-use Rattle.ballots.proofs.Bits.{set_of_lt, holds_set_of}
-use Rattle.paths.specs.Paths.{below, Path, step, on, pair, strength}
+use Rattle.ballots.proofs.Sets.{set_of_lt, holds_set_of}
+use Rattle.paths.specs.Paths.{below, Path, step, on}
+use Rattle.paths.specs.Middles.{pair, strength}
 use Rattle.paths.specs.Rows.{Leads, weakest, Shows}
-use Rattle.paths.specs.Cuts.{Cut, nearer}
+use Rattle.paths.specs.Cuts.{Cut, nearer, cut}
+use Rattle.paths.specs.Strengths.{CutOf}
 use Rattle.paths.specs.Laws.{CutBounds, PathAndCut}
-use Rattle.paths.proofs.Walks.{in_below, below_in, join, weaken, ends}
-use Rattle.paths.proofs.Pairs.{pair_two, two_pair, strength_strongest, strength_pair}
+use Rattle.paths.proofs.Walks.{in_below, below_in, along, join, weaken}
+use Rattle.paths.proofs.Pairs.{pair_two, two_pair, pair_no, strength_strongest, strength_pair}
 
 -- a path from a candidate of the set stays in it, or is no stronger than the wins across
 leaves :
-    {w : ℕ → ℕ → ℕ} {n x y s set m a b : ℕ} → Cut w n x y s set → holds set a ≡ true → Path w (below n) m a b →
+    {w : ℕ → ℕ → ℕ} {n x y s set m a b : ℕ} → Cut w n x y s set → Path w (below n) m a b → holds set a ≡ true →
     (holds set b ≡ true) ⊎ (m ≤ s)
-leaves {n = n} {set = set} {b = b} c h (step {x = a} ha hb l) = elim (cases_Bool (holds set b)) [
-  | inl i ↦ inl i
-  | inr o ↦ inr (omega (arith, c.across a b (below_in n a ha) (below_in n b hb) h o))
-]
-leaves {n = n} {set = set} {b = b} c h (on {y = a} p hb l) = elim (leaves c h p) [
-  | inl g ↦ elim (cases_Bool (holds set b)) [
-    | inl i ↦ inl i
-    | inr o ↦ inr (omega (arith, c.across a b (below_in n a (ends p)) (below_in n b hb) g o))
-  ]
-  | inr g ↦ inr g
-]
+leaves {n = n} {s = s} {set = set} {m = m} c =
+    along (λ a b. holds set a ≡ true → (holds set b ≡ true) ⊎ (m ≤ s))
+    (λ a b ha hb l h. elim (cases_Bool (holds set b)) [
+      | inl i ↦ inl i
+      | inr o ↦ inr (omega (arith, c.across a b (below_in n a ha) (below_in n b hb) h o))
+    ])
+    (λ a b z f g h. elim (f h) [ inl i ↦ g i | inr k ↦ inr k ])
 
 pub cut_bounds : CutBounds
-cut_bounds w n x y s set m c p = elim (leaves c c.has p) [
+cut_bounds w n x y s set m c p = elim (leaves c p c.has) [
   | inl i ↦ absurd (both_ways (holds set y) c.lacks i)
   | inr g ↦ g
 ]
@@ -75,7 +73,8 @@ module _ (w : ℕ → ℕ → ℕ) (n x y : ℕ) (e : pair n x y ≡ true) where
         | inr l ↦
             let t : ℕ = strength w n x a in
             let m : ℕ = min t (w a b) in
-            let p : Path w (below n) t x a = (strength_strongest w n x a (strength_pair w n x a (omega arith))).shown (omega arith) in
+            let to = strength_strongest w n x a (strength_pair w n x a (omega arith)) in
+            let p : Path w (below n) t x a = to.shown (omega arith) in
             let q : Path w (below n) m x b = on (weaken (omega arith) p) (in_below n b bn) (omega arith) in
             omega (arith, top m q)
       ]
@@ -91,3 +90,15 @@ module _ (w : ℕ → ℕ → ℕ) (n x y : ℕ) (e : pair n x y ≡ true) where
         bounded = set_of_lt (nearer w n x y) n;
         across = λ a b an bn i o. stays a b an bn (sym (bit a an) ∙ i) (sym (bit b bn) ∙ o);
       }
+
+-- the set of those nearer is the cut of its pair
+pub set_cut : (w : ℕ → ℕ → ℕ) (n x y set : ℕ) → set ≡ cut w n x y → CutOf w n x y set
+set_cut w n x y set e =
+    record {
+      is = e;
+      cuts = λ p.
+          let two = two_pair n x y p.first p.second p.apart in
+          let is : set ≡ set_of (nearer w n x y) n = e ∙ rw two in
+          rw is (nearer_cuts w n x y two);
+      none = λ apart. e ∙ rw (pair_no n x y apart);
+    }

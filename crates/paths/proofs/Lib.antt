@@ -1,9 +1,8 @@
 pub mod Walks
 pub mod Via
 pub mod Pairs
-pub mod Apart
 pub mod Rows
 pub mod Crossings
 pub mod Phases
-pub mod Found
-pub mod Written
+pub mod Grids
+pub mod Parts

@@ -1,21 +1,20 @@
 -- Pairs of candidates and their strengths.
-use Rattle.std.proofs.Common.{◌≡◌, ℕ, ◌<◌, true, inl, inr, arith}
+use Rattle.std.proofs.Common.{◌≡◌, ℕ, ◌<◌, true, false, inl, inr, arith}
 use Rattle.std.proofs.lemmas.Bool.{cases_Bool}
 use Rattle.std.proofs.lemmas.Bool.Decides.{nat_tests}
-use Rattle.paths.specs.Paths.{below, Strongest, via, pair, strength}
+use Rattle.paths.specs.Paths.{below, IsPair, Strongest}
+use Rattle.paths.specs.Middles.{via, pair, strength}
 use Rattle.paths.proofs.Via.{via_strongest}
 
--- what makes a pair
-pub record Two (n x y : ℕ) : Type 0 where
-  pub first : x < n
-  pub second : y < n
-  pub apart : x ≡ y → ⊥
-
-pub pair_two : (n x y : ℕ) → pair n x y ≡ true → Two n x y
-pair_two n x y e = record { first = grind (arith, nat_tests); second = grind (arith, nat_tests); apart = grind (arith, nat_tests) }
+pub pair_two : (n x y : ℕ) → pair n x y ≡ true → IsPair n x y
+pair_two n x y e =
+    record { first = grind (arith, nat_tests); second = grind (arith, nat_tests); apart = grind (arith, nat_tests) }
 
 pub two_pair : (n x y : ℕ) → x < n → y < n → (x ≡ y → ⊥) → pair n x y ≡ true
 two_pair n x y xn yn ne = grind (arith, nat_tests)
+
+pub pair_no : (n x y : ℕ) → ¬ IsPair n x y → pair n x y ≡ false
+pair_no n x y apart = elim (cases_Bool (pair n x y)) [ inl e ↦ absurd (apart (pair_two n x y e)) | inr e ↦ e ]
 
 module _ (w : ℕ → ℕ → ℕ) (n x y : ℕ) where
   -- the strength of a pair is that of the strongest path
@@ -27,4 +26,7 @@ module _ (w : ℕ → ℕ → ℕ) (n x y : ℕ) where
 
   -- only a pair has a strength above 0
   pub strength_pair : 0 < strength w n x y → pair n x y ≡ true
-  strength_pair h = elim (cases_Bool (pair n x y)) [ inl e ↦ e | inr e ↦ absurd (let f : 0 < 0 = rw e at h in let g : ⊥ = omega arith in g) ]
+  strength_pair h = elim (cases_Bool (pair n x y)) [
+    | inl e ↦ e
+    | inr e ↦ absurd (let f : 0 < 0 = rw e at h in let g : ⊥ = omega arith in g)
+  ]

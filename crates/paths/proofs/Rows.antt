@@ -1,13 +1,29 @@
 -- Why the row by the candidates in the middle is a strongest path, with no candidate twice.
-use Rattle.std.proofs.Common.{◌≡◌, ℕ, zero, suc, ◌<◌, ◌≤◌, min, Bool, true, ◌⊎◌, List, [], ◌∷◌, ◌++◌, sym, refl, ap, ◌∙◌, inl, inr, arith}
-use Rattle.std.specs.List.{AllByRecursion}
+use Rattle.std.proofs.Common.{◌≡◌, ℕ, zero, suc, ◌<◌, ◌≤◌, min, Bool, true, false, eqb, ◌⊎◌, List, [], ◌∷◌, ◌++◌, length, sym, refl, ap, ◌∙◌, inl, inr, arith}
+use Rattle.std.specs.List.{AllByRecursion, IsDistinct, list_any}
 use Rattle.std.proofs.ByRecursion.{All-append, All-weaker}
-use Rattle.std.proofs.lemmas.Bool.{cases_lt, lt-ltb, le-ltb}
-use Rattle.paths.specs.Paths.{via}
-use Rattle.paths.specs.Rows.{Leads, weakest, Apart, bettered, path}
-use Rattle.paths.specs.Laws.{PathShown}
+use Rattle.std.proofs.lemmas.Map.Steps.{length-le_from_distinct_below}
+use Rattle.std.proofs.lemmas.Bool.{cases_lt, lt-ltb, le-ltb, eqb-true, ne_eqb, or_cases, both_ways}
+use Rattle.paths.specs.Paths.{Within}
+use Rattle.paths.specs.Middles.{via, bettered, path}
+use Rattle.paths.specs.Rows.{Leads, weakest, ShowsStrongest}
 use Rattle.paths.proofs.Via.{via_to, via_from, via_more, via_through, via_join, path_strength}
-use Rattle.paths.proofs.Apart.{apart_append, apart_few}
+
+-- rows with no candidate twice: one after another, and how long they are
+distinct_append :
+    (xs ys : List ℕ) → IsDistinct eqb xs → IsDistinct eqb ys →
+    AllByRecursion (λ z. AllByRecursion (λ u. eqb z u ≡ false) ys) xs → IsDistinct eqb (xs ++ ys)
+unfolding IsDistinct
+distinct_append [] ys a b d = b
+distinct_append (x ∷ xs) ys a b d = (All-append (λ u. eqb x u ≡ false) xs ys a.0 d.0, distinct_append xs ys a.1 b d.1)
+
+found_below : (n : ℕ) (xs : List ℕ) → AllByRecursion (λ z. z < n) xs → (q : ℕ) → list_any (eqb q) xs ≡ true → q < n
+found_below n [] l q h = absurd (both_ways false refl h)
+found_below n (x ∷ xs) l q h = elim (or_cases (eqb q x) (list_any (eqb q) xs) h)
+    [ inl e ↦ rw (eqb-true q x e) l.0 | inr t ↦ found_below n xs l.1 q t ]
+
+distinct_few : (n : ℕ) (xs : List ℕ) → IsDistinct eqb xs → AllByRecursion (λ z. z < n) xs → length xs ≤ n
+distinct_few n xs d l = length-le_from_distinct_below xs n d (found_below n xs l)
 
 module _ (w : ℕ → ℕ → ℕ) (here : ℕ → Bool) where
   -- one row after another
@@ -48,8 +64,12 @@ module _ (w : ℕ → ℕ → ℕ) (here : ℕ → Bool) where
         mid = o.0;
         is = o.1;
         less = h;
-        first = λ e. let f : via w here k k y < via w here (suc k) k y = rw e at h in omega (arith, via_from w here k y);
-        last = λ e. let f : via w here k x k < via w here (suc k) x k = rw (sym e) at h in omega (arith, via_to w here k x);
+        first = λ e.
+            let f : via w here k k y < via w here (suc k) k y = rw e at h in
+            omega (arith, via_from w here k y);
+        last = λ e.
+            let f : via w here k x k < via w here (suc k) x k = rw (sym e) at h in
+            omega (arith, via_to w here k x);
         row = rw (lt-ltb (via w here k x y) (via w here (suc k) x y) h);
       }
 
@@ -95,7 +115,9 @@ module _ (w : ℕ → ℕ → ℕ) (here : ℕ → Bool) where
     from = omega (arith, i.from, via_more w here k z y);
   })
 
-  on_first : (m k x y z : ℕ) → here k ≡ true → m ≤ via w here k x k → m ≤ via w here k k y → On m k x k z → On m (suc k) x y z
+  on_first :
+      (m k x y z : ℕ) → here k ≡ true → m ≤ via w here k x k → m ≤ via w here k k y → On m k x k z →
+      On m (suc k) x y z
   on_first m k x y z e a b (inl q) = inr (rw q (record {
     low = omega arith;
     among = e;
@@ -125,9 +147,12 @@ module _ (w : ℕ → ℕ → ℕ) (here : ℕ → Bool) where
     | inl o ↦
         let a : m ≤ via w here k x k = omega (arith, o.is) in
         let b : m ≤ via w here k k y = omega (arith, o.is) in
-        rw o.row (All-append (On m (suc k) x y) (path w here k x k) (path w here k k y)
-        (All-weaker (On m k x k) (On m (suc k) x y) (λ z. on_first m k x y z o.mid a b) (path w here k x k) (path_on m k x k a))
-        (All-weaker (On m k k y) (On m (suc k) x y) (λ z. on_second m k x y z o.mid a) (path w here k k y) (path_on m k k y b)))
+        let first : ℕ → Type 0 = On m k x k in
+        let second : ℕ → Type 0 = On m k k y in
+        let both : ℕ → Type 0 = On m (suc k) x y in
+        rw o.row (All-append both (path w here k x k) (path w here k k y)
+        (All-weaker first both (λ z. on_first m k x y z o.mid a b) (path w here k x k) (path_on m k x k a))
+        (All-weaker second both (λ z. on_second m k x y z o.mid a) (path w here k k y) (path_on m k k y b)))
     | inr s ↦ rw s.row (All-weaker (On m k x y) (On m (suc k) x y) (later m k x y) (path w here k x y)
         (path_on m k x y (omega (arith, s.is))))
   ]
@@ -135,35 +160,35 @@ module _ (w : ℕ → ℕ → ℕ) (here : ℕ → Bool) where
   -- the two parts of a bettered row have no candidate in common: over it there would be a path that does not need k
   parts_apart :
       (k x y : ℕ) → (x ≡ y → ⊥) → Betters k x y →
-      AllByRecursion (λ z. AllByRecursion (λ u. u ≡ z → ⊥) (path w here k k y)) (x ∷ path w here k x k)
+      AllByRecursion (λ z. AllByRecursion (λ u. eqb z u ≡ false) (path w here k k y)) (x ∷ path w here k x k)
   parts_apart k x y ne o =
       let m : ℕ = via w here (suc k) x y in
       let p = path_on m k x k (omega (arith, o.is)) in
       let q = path_on m k k y (omega (arith, o.is)) in (
-        All-weaker (On m k k y) (λ u. u ≡ x → ⊥) (λ u j e. elim j [
-          | inl f ↦ ne (sym e ∙ f)
-          | inr j ↦ let l : m ≤ via w here k x y = rw e at j.from in omega (arith, o.less)
-        ]) (path w here k k y) q,
-        All-weaker (On m k x k) (λ z. AllByRecursion (λ u. u ≡ z → ⊥) (path w here k k y)) (λ z i.
-            All-weaker (On m k k y) (λ u. u ≡ z → ⊥) (λ u j e. elim i [
+        All-weaker (On m k k y) (λ u. eqb x u ≡ false) (λ u j. ne_eqb x u (λ e. elim j [
+          | inl f ↦ ne (e ∙ f)
+          | inr j ↦ let l : m ≤ via w here k x y = rw (sym e) at j.from in omega (arith, o.less)
+        ])) (path w here k k y) q,
+        All-weaker (On m k x k) (λ z. AllByRecursion (λ u. eqb z u ≡ false) (path w here k k y)) (λ z i.
+            All-weaker (On m k k y) (λ u. eqb z u ≡ false) (λ u j. ne_eqb z u (λ e. elim i [
               | inl g ↦ elim j [
-                | inl f ↦ o.last (sym g ∙ (sym e ∙ f))
+                | inl f ↦ o.last (sym g ∙ (e ∙ f))
                 | inr j ↦ omega (arith, j.low)
               ]
               | inr i ↦ elim j [
-                | inl f ↦ let l : m ≤ via w here k x y = rw (sym e ∙ f) at i.to in omega (arith, o.less)
+                | inl f ↦ let l : m ≤ via w here k x y = rw (e ∙ f) at i.to in omega (arith, o.less)
                 | inr j ↦
-                    let l : m ≤ via w here k z y = rw e at j.from in
+                    let l : m ≤ via w here k z y = rw (sym e) at j.from in
                     omega (arith, o.less, via_join w here m k z x y i.low i.among i.to l)
               ]
-            ]) (path w here k k y) q) (path w here k x k) p,
+            ])) (path w here k k y) q) (path w here k x k) p,
       )
 
-  path_apart : (k x y : ℕ) → (x ≡ y → ⊥) → Apart (x ∷ path w here k x y)
-  unfolding path
-  path_apart zero x y ne = ((λ e. ne (sym e), tt), (tt, tt))
+  path_apart : (k x y : ℕ) → (x ≡ y → ⊥) → IsDistinct eqb (x ∷ path w here k x y)
+  unfolding path IsDistinct
+  path_apart zero x y ne = ((ne_eqb x y ne, tt), (tt, tt))
   path_apart (suc k) x y ne = elim (betters_or_keeps k x y) [
-    | inl o ↦ rw o.row (apart_append (x ∷ path w here k x k) (path w here k k y)
+    | inl o ↦ rw o.row (distinct_append (x ∷ path w here k x k) (path w here k k y)
         (path_apart k x k o.first) (path_apart k k y o.last).1 (parts_apart k x y ne o))
     | inr s ↦ rw s.row (path_apart k x y ne)
   ]
@@ -186,13 +211,19 @@ module _ (w : ℕ → ℕ → ℕ) (here : ℕ → Bool) where
         let (p, ps, e) = path_some k x k in
         let (q, qs, f) = path_some k k y in
         let l = path_leads k x k (omega (arith, o.is, o.less)) o.mid in
-        let g : weakest w x (path w here k x k ++ path w here k k y) ≡ min (weakest w x (path w here k x k)) (weakest w k (path w here k k y)) =
+        let first : List ℕ = path w here k x k in
+        let second : List ℕ = path w here k k y in
+        let g : weakest w x (first ++ second) ≡ min (weakest w x first) (weakest w k second) =
         rw (e, f) (weakest_append x k p q ps qs (rw e at l)) in
         rw o.row (omega (arith, g, path_weak k x k, path_weak k k y, o.is))
     | inr s ↦ rw s.row (path_weak k x y ∙ sym s.is)
   ]
 
-pub path_shown : PathShown
+-- where there is a path between two candidates, x and what follows it by path is a strongest one,
+-- with no candidate twice
+pub path_shown :
+    (w : ℕ → ℕ → ℕ) (here : ℕ → Bool) (n x y : ℕ) → Within here n → here x ≡ true → here y ≡ true → (x ≡ y → ⊥) →
+    0 < via w here n x y → ShowsStrongest w here n x y (via w here n x y) (x ∷ path w here n x y)
 path_shown w here n x y within hx hy ne pos =
     let s : ℕ = via w here n x y in
     let apart = path_apart w here n x y ne in
@@ -206,7 +237,7 @@ path_shown w here n x y within hx hy ne pos =
         some = pos;
       };
       apart = apart;
-      short = apart_few n (x ∷ path w here n x y) apart (
+      short = distinct_few n (x ∷ path w here n x y) apart (
         within x hx,
         All-weaker (On w here s n x y) (λ z. z < n) (λ z i. elim i [ inl e ↦ rw e (within y hy) | inr i ↦ i.low ])
             (path w here n x y) (path_on w here s n x y (omega arith)),

@@ -1,8 +1,8 @@
 -- Strengths: via is the strength of the strongest path, so paths can be decided and measured.
 use Rattle.std.proofs.Common.{◌≡◌, ℕ, zero, suc, ◌<◌, ◌≤◌, min, Bool, true, ◌⊎◌, inl, inr, arith}
 use Rattle.std.proofs.lemmas.Bool.{cases_lt, cases_eq}
-use Rattle.paths.specs.Paths.{below, Within, Path, step, on, via}
-use Rattle.paths.specs.Laws.{ViaStrongest}
+use Rattle.paths.specs.Paths.{below, Within, Path, step, on, Strongest}
+use Rattle.paths.specs.Middles.{via}
 use Rattle.paths.proofs.Walks.{join, ends, in_below, below_in}
 
 module _ (w : ℕ → ℕ → ℕ) (here : ℕ → Bool) where
@@ -28,7 +28,8 @@ module _ (w : ℕ → ℕ → ℕ) (here : ℕ → Bool) where
   via_more k x y = grind arith
 
   -- strengths to k and from k join through it
-  pub via_through : (m k x y : ℕ) → here k ≡ true → m ≤ via w here k x k → m ≤ via w here k k y → m ≤ via w here (suc k) x y
+  pub via_through :
+      (m k x y : ℕ) → here k ≡ true → m ≤ via w here k x k → m ≤ via w here k k y → m ≤ via w here (suc k) x y
   unfolding via
   via_through m k x y e p q = grind arith
 
@@ -71,10 +72,14 @@ module _ (w : ℕ → ℕ → ℕ) (here : ℕ → Bool) (n : ℕ) (bound : With
   strength_join x y z hx hy hz = path_strength
       (join (strength_path w here _ n x y hx hy (omega arith)) (strength_path w here _ n y z hy hz (omega arith)))
 
-pub via_strongest : ViaStrongest
+-- via is the strength of the strongest path, and nothing else is
+pub via_strongest :
+    (w : ℕ → ℕ → ℕ) (n x y : ℕ) → x < n → y < n →
+    Strongest w n x y (via w (below n) n x y) × ((s : ℕ) → Strongest w n x y s → s ≡ via w (below n) n x y)
 via_strongest w n x y xn yn =
     let t : ℕ = via w (below n) n x y in
-    let path : Path w (below n) t x y = strength_path w (below n) t n x y (in_below n x xn) (in_below n y yn) (omega arith) in
+    let path : Path w (below n) t x y =
+    strength_path w (below n) t n x y (in_below n x xn) (in_below n y yn) (omega arith) in
     let top : (m : ℕ) → Path w (below n) m x y → m ≤ t = λ m p. path_strength w (below n) n (below_in n) p in (
       record { shown = λ _. path; greatest = top },
       λ s g. elim (cases_lt 0 s) [

@@ -1,4 +1,4 @@
--- Paths joined, weakened, widened and reversed.
+-- Paths joined, weakened, and carried over to other wins.
 use Rattle.std.proofs.Common.{◌≡◌, ℕ, ◌<◌, ◌≤◌, Bool, true, le_trans, arith}
 use Rattle.std.proofs.lemmas.Bool.{ltb-true, lt-ltb}
 use Rattle.paths.specs.Paths.{below, Path, step, on}
@@ -20,6 +20,14 @@ pub ends : {w : ℕ → ℕ → ℕ} {here : ℕ → Bool} {m x y : ℕ} → Pat
 ends (step hx hy h) = hy
 ends (on p hz h) = hz
 
+-- what holds along each win, and goes on from one to the next, holds along a path
+pub along :
+    {w : ℕ → ℕ → ℕ} {here : ℕ → Bool} {m x y : ℕ} (R : ℕ → ℕ → Type 0) →
+    ((a b : ℕ) → here a ≡ true → here b ≡ true → m ≤ w a b → R a b) → ((a b c : ℕ) → R a b → R b c → R a c) →
+    Path w here m x y → R x y
+along R one next (step {x = x} {y = y} hx hy h) = one x y hx hy h
+along R one next (on {x = x} {y = y} {z = z} p hz h) = next x y z (along R one next p) (one y z (ends p) hz h)
+
 -- one path after another
 pub join : {w : ℕ → ℕ → ℕ} {here : ℕ → Bool} {m x y z : ℕ} → Path w here m x y → Path w here m y z → Path w here m x z
 join p (step hy hz h) = on p hz h
@@ -33,15 +41,13 @@ weaken l (on p hz h) = on (weaken l p) hz (le_trans l h)
 -- where the wins among those that stand are the same, so are the paths
 pub rewin :
     {w v : ℕ → ℕ → ℕ} {here : ℕ → Bool} {m x y : ℕ} →
-    ((a b : ℕ) → here a ≡ true → here b ≡ true → v a b ≡ w a b) →
-    Path w here m x y → Path v here m x y
-rewin f (step {x = x} {y = y} hx hy h) = step hx hy (omega (arith, f x y hx hy))
-rewin f (on {y = y} {z = z} p hz h) = on (rewin f p) hz (omega (arith, f y z (ends p) hz))
+    ((a b : ℕ) → here a ≡ true → here b ≡ true → v a b ≡ w a b) → Path w here m x y → Path v here m x y
+rewin {v = v} {here = here} {m = m} f =
+    along (Path v here m) (λ a b ha hb h. step ha hb (omega (arith, f a b ha hb))) (λ a b c p q. join p q)
 
 -- where every win is reversed, so is every path
 pub reverse :
     {w v : ℕ → ℕ → ℕ} {here : ℕ → Bool} {m x y : ℕ} →
-    ((a b : ℕ) → here a ≡ true → here b ≡ true → v b a ≡ w a b) →
-    Path w here m x y → Path v here m y x
-reverse f (step {x = x} {y = y} hx hy h) = step hy hx (omega (arith, f x y hx hy))
-reverse f (on {y = y} {z = z} p hz h) = join (step hz (ends p) (omega (arith, f y z (ends p) hz))) (reverse f p)
+    ((a b : ℕ) → here a ≡ true → here b ≡ true → v b a ≡ w a b) → Path w here m x y → Path v here m y x
+reverse {v = v} {here = here} {m = m} f =
+    along (λ x y. Path v here m y x) (λ a b ha hb h. step hb ha (omega (arith, f a b ha hb))) (λ a b c p q. join q p)

@@ -1,7 +1,7 @@
 -- Cuts: sets of candidates that part two of them, and how strong the wins across are. Assumes nothing.
-use Rattle.std.specs.Prelude.{◌≡◌, ℕ, ◌^◌, ◌<◌, ◌≤◌, Bool, true, false, cond, ◌||◌, ◌==◌, nat_lt}
+use Rattle.std.specs.Prelude.{◌≡◌, ℕ, ◌^◌, ◌<◌, ◌≤◌, Bool, true, false, ◌||◌, ◌==◌, nat_lt, if◌then◌else◌}
 use Rattle.ballots.specs.Sets.{holds, set_of}
-use Rattle.paths.specs.Paths.{pair, strength}
+use Rattle.paths.specs.Middles.{pair, strength}
 
 -- the set has x and not y, nobody but candidates below n, and none of it wins against one outside with more than s
 pub record Cut (w : ℕ → ℕ → ℕ) (n x y s set : ℕ) : Type 0 where
@@ -16,4 +16,4 @@ nearer w n x y z = z == x || nat_lt (strength w n x y) (strength w n x z)
 
 -- the set of x and those nearer to x than y, empty where x and y are not two different candidates below n
 abbrev pub cut : (ℕ → ℕ → ℕ) → ℕ → ℕ → ℕ → ℕ
-cut w n x y = cond (pair n x y) (set_of (nearer w n x y) n) 0
+cut w n x y = if pair n x y then set_of (nearer w n x y) n else 0

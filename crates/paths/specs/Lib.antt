@@ -1,7 +1,7 @@
 pub mod Paths
 pub mod Rows
+pub mod Middles
 pub mod Cuts
-pub mod Laws
 pub mod Strengths
-pub mod Phases
-pub mod Found
+pub mod Laws
+pub mod inner

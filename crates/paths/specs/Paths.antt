@@ -1,5 +1,5 @@
--- Paths of wins over any win function: w x y is the strength of the win of x against y, 0 where x does not win. Assumes nothing.
-use Rattle.std.specs.Prelude.{◌≡◌, ℕ, zero, suc, ◌<◌, ◌≤◌, min, max, Bool, true, cond, not, ◌&&◌, ◌==◌, nat_lt}
+-- Paths of wins by any w: w x y is the strength of the win of x against y, 0 where x does not win. Assumes nothing.
+use Rattle.std.specs.Prelude.{◌≡◌, ℕ, ◌<◌, ◌≤◌, Bool, true, ◌≢◌, nat_lt}
 
 -- the candidates below n
 unfoldable pub below : ℕ → ℕ → Bool
@@ -8,6 +8,12 @@ below n x = nat_lt x n
 -- all candidates that stand are below n
 abbrev pub Within : (ℕ → Bool) → ℕ → Type 0
 Within here n = (z : ℕ) → here z ≡ true → z < n
+
+-- x and y are two different candidates below n
+pub record IsPair (n x y : ℕ) : Type 0 where
+  pub first : x < n
+  pub second : y < n
+  pub apart : x ≢ y
 
 -- a path from x to y among the candidates that stand, each step a win of at least m
 pub data Path (w : ℕ → ℕ → ℕ) (here : ℕ → Bool) (m : ℕ) : ℕ → ℕ → Type 0 where
@@ -18,17 +24,3 @@ pub data Path (w : ℕ → ℕ → ℕ) (here : ℕ → Bool) (m : ℕ) : ℕ �
 pub record Strongest (w : ℕ → ℕ → ℕ) (n x y s : ℕ) : Type 0 where
   pub shown : 0 < s → Path w (below n) s x y
   pub greatest : (m : ℕ) → Path w (below n) m x y → m ≤ s
-
--- the strength from x to y over candidates in the middle that are below k and stand: over k itself, or without it
-unfoldable pub via : (ℕ → ℕ → ℕ) → (ℕ → Bool) → ℕ → ℕ → ℕ → ℕ
-via w here zero x y = w x y
-via w here (suc k) x y =
-    cond (here k) (max (via w here k x y) (min (via w here k x k) (via w here k k y))) (via w here k x y)
-
--- x and y are two different candidates below n
-abbrev pub pair : ℕ → ℕ → ℕ → Bool
-pair n x y = nat_lt x n && (nat_lt y n && not (x == y))
-
--- the strength of the strongest path from x to y, 0 where they are not two different candidates below n
-abbrev pub strength : (ℕ → ℕ → ℕ) → ℕ → ℕ → ℕ → ℕ
-strength w n x y = cond (pair n x y) (via w (below n) n x y) 0

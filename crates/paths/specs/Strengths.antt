@@ -1,34 +1,31 @@
--- The strengths of the pairs of candidates by pairwise counts. Assumes nothing.
-use Rattle.std.specs.Prelude.{◌≡◌, ℕ, ◌<◌, List}
-use Rattle.ballots.specs.Format.{most_candidates}
-use Rattle.ballots.specs.Sets.{set_of}
-use Rattle.pairwise.specs.declared.Pairwise.{Pairwise}
-use Rattle.pairwise.specs.Grids.{cell, within, rows}
-use Rattle.pairwise.specs.Tables.{win_in}
-use Rattle.paths.specs.Paths.{below, strength}
-use Rattle.paths.specs.Rows.{bettered, path}
+-- The strength, the path and the cut of two candidates, by the wins w among the candidates below n. Assumes nothing.
+use Rattle.std.specs.Prelude.{◌≡◌, ℕ, ◌<◌, List, []}
+use Rattle.pairwise.specs.declared.grid.Grid.{Grid}
+use Rattle.pairwise.specs.Grids.{number_for, IsZeroOutside}
+use Rattle.paths.specs.Paths.{below, IsPair, Strongest}
+use Rattle.paths.specs.Rows.{ShowsStrongest}
+use Rattle.paths.specs.Middles.{strength, row}
+use Rattle.paths.specs.Cuts.{Cut, cut}
 
--- the strength of the strongest path from x to y by the counts, 0 where they are not two different candidates
-abbrev pub strength_in : Pairwise → ℕ → ℕ → ℕ
-strength_in t = strength (win_in t) t.counts.candidates
+-- s is the strength from x to y: that of the strongest path, 0 where they are not two different candidates
+pub record StrengthOf (w : ℕ → ℕ → ℕ) (n x y s : ℕ) : Type 0 where
+  pub strongest : IsPair n x y → Strongest w n x y s
+  pub none : ¬ IsPair n x y → s ≡ 0
 
--- what follows x on the path to y by the counts, over candidates in the middle that are below k
-abbrev pub path_in : Pairwise → ℕ → ℕ → ℕ → List ℕ
-path_in t = path (win_in t) (below t.counts.candidates)
+-- the grid has the strength of each pair, and 0 in every other cell
+pub record GridOf (w : ℕ → ℕ → ℕ) (n : ℕ) (g : Grid) : Type 0 where
+  pub candidates : g.candidates ≡ n
+  pub each : (x y : ℕ) → StrengthOf w n x y (number_for g x y)
+  pub outside : IsZeroOutside g
 
--- the set of the candidates that bettered the pair x, y as the one in the middle, empty where there is no such pair
-abbrev pub middles_in : Pairwise → ℕ → ℕ → ℕ
-middles_in t =
-    within t.counts.candidates (λ x y. set_of (bettered (win_in t) (below t.counts.candidates) x y) t.counts.candidates)
+-- the path is a strongest one from x to y, and empty where there is none
+pub record PathOf (w : ℕ → ℕ → ℕ) (n x y : ℕ) (path : List ℕ) : Type 0 where
+  pub is : path ≡ row w n x y
+  pub shown : 0 < strength w n x y → ShowsStrongest w (below n) n x y (strength w n x y) path
+  pub none : strength w n x y ≡ 0 → path ≡ []
 
--- each cell has the strength of its pair
-abbrev pub Strong : Pairwise → List ℕ → Type 0
-Strong t cs = (x y : ℕ) → (x < most_candidates) × (y < most_candidates) → cell cs x y ≡ strength_in t x y
-
--- each cell has the candidates in the middle that bettered its pair
-abbrev pub Middles : Pairwise → List ℕ → Type 0
-Middles t hs = (x y : ℕ) → (x < most_candidates) × (y < most_candidates) → cell hs x y ≡ middles_in t x y
-
--- the strengths, row by row
-abbrev pub strength_table : Pairwise → List ℕ
-strength_table t = rows t.counts.candidates (strength_in t)
+-- the set is a cut that no win stronger than the strength leaves, empty where x and y are not two different candidates
+pub record CutOf (w : ℕ → ℕ → ℕ) (n x y set : ℕ) : Type 0 where
+  pub is : set ≡ cut w n x y
+  pub cuts : IsPair n x y → Cut w n x y (strength w n x y) set
+  pub none : ¬ IsPair n x y → set ≡ 0

@@ -1,14 +1,14 @@
 // What holds of the paths of any wins.
-ghost use Rattle.paths.specs.Laws.{ViaStrongest, PathShown, CutBounds, PathAndCut};
+ghost use Rattle.paths.specs.Laws.{OneStrength, RowShowsStrongest, CutBounds, PathAndCut};
 
-// The executable strength is that of the strongest path.
+// Each two candidates have one strength, that of the strongest path.
 pub fn strengths_hold()
-    ensures { ViaStrongest }
+    ensures { OneStrength }
 {}
 
-// The path by the candidates in its middle is a strongest one, with no candidate twice.
+// The row of a pair is a strongest path, with no candidate twice.
 pub fn paths_hold()
-    ensures { PathShown }
+    ensures { RowShowsStrongest }
 {}
 
 // No path is stronger than the wins across a cut.

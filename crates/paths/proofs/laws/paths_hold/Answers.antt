@@ -1,5 +1,5 @@
-use Rattle.paths.proofs.Rows.{path_shown}
+use Rattle.paths.proofs.Parts.{row_shows}
 use Rattle.paths.proofs.laws.paths_hold.Goals as goal
 
 pub returns : goal.returns
-returns c = path_shown
+returns c = row_shows

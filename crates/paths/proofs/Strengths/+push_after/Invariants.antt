@@ -1,4 +1,0 @@
-use Rattle.paths.proofs.Strengths.+push_after.Given as goal
-
-abbrev pub decreases-push_after : goal.decreases-push_after
-decreases-push_after l = l.limit

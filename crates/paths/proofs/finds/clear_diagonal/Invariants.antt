@@ -1,5 +1,0 @@
-use Rattle.paths.specs.Phases.{Cleared}
-use Rattle.paths.proofs.finds.clear_diagonal.Given as goal
-
-abbrev pub invariant-loop-x : goal.invariant-loop-x
-invariant-loop-x l = Cleared l.x l.initial.cells l.cells
