@@ -6,7 +6,7 @@ use Rattle.paths.specs.Paths.{Within, Path, step, on}
 use Rattle.paths.proofs.Walks.{starts, ends}
 use Rattle.paths.proofs.Via.{strength_path, path_strength}
 use Rattle.best.specs.Best.{Best, BestIn}
-use Rattle.best.specs.Laws.{Alike, Exchanged, CloneExchange, only, CloneIndependence}
+use Rattle.best.specs.Laws.{WinAlike, Exchanges, CloneExchange, with_only, CloneIndependence}
 use Rattle.best.proofs.Maximal.{maximal}
 
 -- every candidate of k as the one candidate c
@@ -24,15 +24,15 @@ as_same k c x y e f = rw (e, f)
 
 -- paths among the candidates here, as paths among those there: c, of k and there, stands for all of k
 module _
-    (w : ℕ → ℕ → ℕ) (n : ℕ) (k here there : ℕ → Bool) (here_in : Within here n) (there_in : Within there n)
-    (alike : Alike w n k) (same : (z : ℕ) → k z ≡ false → there z ≡ here z)
+    (w : ℕ → ℕ → ℕ) (v : ℕ) (k here there : ℕ → Bool) (here_in : Within here v) (there_in : Within there v)
+    (alike : WinAlike w v k) (same : (z : ℕ) → k z ≡ false → there z ≡ here z)
     (c : ℕ) (kc : k c ≡ true) (hc : there c ≡ true) where
   stands : (z : ℕ) → here z ≡ true → there (as_one k c z) ≡ true
   stands z h =
       elim (cases_Bool (k z)) [ inl e ↦ rw (as_in k c z e) hc | inr e ↦ rw (as_out k c z e) (rw (same z e) h) ]
 
   -- a win stays as it is, or is between two of k
-  move_win : (x y : ℕ) → x < n → y < n → ((k x ≡ true) × (k y ≡ true)) ⊎ (w x y ≡ w (as_one k c x) (as_one k c y))
+  move_win : (x y : ℕ) → x < v → y < v → ((k x ≡ true) × (k y ≡ true)) ⊎ (w x y ≡ w (as_one k c x) (as_one k c y))
   move_win x y hx hy = grind (arith, alike x c y hx (there_in c hc) hy, alike y c x hy (there_in c hc) hx)
 
   -- so a path stays one, or is between two of k
@@ -64,8 +64,8 @@ module _
       [ inl b ↦ absurd (both_ways (k y) f b.1) | inr q ↦ rw (as_out k c x e, as_out k c y f) at q ]
 
 module _
-    (w : ℕ → ℕ → ℕ) (n : ℕ) (k here there : ℕ → Bool) (here_in : Within here n) (there_in : Within there n)
-    (alike : Alike w n k) (e : Exchanged k here there) where
+    (w : ℕ → ℕ → ℕ) (v : ℕ) (k here there : ℕ → Bool) (here_in : Within here v) (there_in : Within there v)
+    (alike : WinAlike w v k) (e : Exchanges k here there) where
   back : (z : ℕ) → k z ≡ false → here z ≡ there z
   back z kz = sym (e.others z kz)
 
@@ -76,10 +76,10 @@ module _
       let (c, kc, hc) = e.some_there in (
         rw (e.others y ky) hy,
         λ z m pos p. elim (cases_Bool (k z)) [
-          | inl kz ↦ move_in w n k here there here_in there_in alike e.others z kz (starts p) ky ka
-              (b a m pos (move_out w n k there here there_in here_in alike back a ka ha kz ky p))
-          | inr kz ↦ move_outside w n k here there here_in there_in alike e.others c kc hc ky kz
-              (b z m pos (move_outside w n k there here there_in here_in alike back a ka ha kz ky p))
+          | inl kz ↦ move_in w v k here there here_in there_in alike e.others z kz (starts p) ky ka
+              (b a m pos (move_out w v k there here there_in here_in alike back a ka ha kz ky p))
+          | inr kz ↦ move_outside w v k here there here_in there_in alike e.others c kc hc ky kz
+              (b z m pos (move_outside w v k there here there_in here_in alike back a ka ha kz ky p))
         ],
       )
 
@@ -87,66 +87,66 @@ module _
   members_stay : BestIn w here k → BestIn w there k
   members_stay (x, kx, (hx, b)) =
       let (c, kc, hc) = e.some_there in
-      let (z, hkz, f) = maximal w there n there_in (λ z. there z && k z) (λ z h. (and_parts (there z) (k z) h).0)
-      c (and_from (there c) (k c) hc kc) n in
+      let (z, hkz, f) = maximal w there v there_in (λ z. there z && k z) (λ z h. (and_parts (there z) (k z) h).0)
+      c (and_from (there c) (k c) hc kc) v in
       let (hz, kz) = and_parts (there z) (k z) hkz in (
         z,
         kz,
         (
           hz,
           λ y m pos p. elim (cases_Bool (k y)) [
-            | inl ky ↦ strength_path w there m n z y hz (starts p)
-                (omega (arith, path_strength w there n there_in p, f y (there_in y (starts p)) (and_from (there y) (k y) (starts p) ky)))
-            | inr ky ↦ move_out w n k here there here_in there_in alike e.others z kz hz kx ky
-                (b y m pos (move_in w n k there here there_in here_in alike back x kx hx ky kz p))
+            | inl ky ↦ strength_path w there m v z y hz (starts p)
+                (omega (arith, path_strength w there v there_in p, f y (there_in y (starts p)) (and_from (there y) (k y) (starts p) ky)))
+            | inr ky ↦ move_out w v k here there here_in there_in alike e.others z kz hz kx ky
+                (b y m pos (move_in w v k there here there_in here_in alike back x kx hx ky kz p))
           ],
         ),
       )
 
 pub clone_exchange : CloneExchange
-clone_exchange w n k here there here_in there_in e alike =
-    let e_back : Exchanged k there here = record {
+clone_exchange w v k here there here_in there_in e alike =
+    let e_back : Exchanges k there here = record {
       others = λ z kz. sym (e.others z kz);
       some_here = e.some_there;
       some_there = e.some_here;
     } in
     record {
       others = λ y ky. (
-        others_stay w n k here there here_in there_in alike e y ky,
-        others_stay w n k there here there_in here_in alike e_back y ky,
+        others_stay w v k here there here_in there_in alike e y ky,
+        others_stay w v k there here there_in here_in alike e_back y ky,
       );
       members = (
-        members_stay w n k here there here_in there_in alike e,
-        members_stay w n k there here there_in here_in alike e_back,
+        members_stay w v k here there here_in there_in alike e,
+        members_stay w v k there here there_in here_in alike e_back,
       );
     }
 
 -- who stands where of k only a does
 module _ (k : ℕ → Bool) (a : ℕ) (here : ℕ → Bool) where
-  only_here : (x : ℕ) → only k a here x ≡ true → here x ≡ true
-  unfolding only
+  only_here : (x : ℕ) → with_only k a here x ≡ true → here x ≡ true
+  unfolding with_only
   only_here x h = grind (arith, nat_tests)
 
-  pub only_is : (x : ℕ) → only k a here x ≡ true → k x ≡ true → x ≡ a
-  unfolding only
+  pub only_is : (x : ℕ) → with_only k a here x ≡ true → k x ≡ true → x ≡ a
+  unfolding with_only
   only_is x h e = grind (arith, nat_tests)
 
-  pub only_outside : (x : ℕ) → k x ≡ false → only k a here x ≡ here x
-  unfolding only
+  pub only_outside : (x : ℕ) → k x ≡ false → with_only k a here x ≡ here x
+  unfolding with_only
   only_outside x e = grind (arith, nat_tests)
 
-  pub only_self : k a ≡ true → here a ≡ true → only k a here a ≡ true
-  unfolding only
+  pub only_self : k a ≡ true → here a ≡ true → with_only k a here a ≡ true
+  unfolding with_only
   only_self e h = grind (arith, nat_tests)
 
 pub clone_independence : CloneIndependence
-clone_independence w n k here a here_in ha ka alike =
-    let e : Exchanged k here (only k a here) = record {
+clone_independence w v k here a here_in ha ka alike =
+    let e : Exchanges k here (with_only k a here) = record {
       others = only_outside k a here;
       some_here = (a, ka, ha);
       some_there = (a, ka, only_self k a here ka ha);
     } in
-    let s = clone_exchange w n k here (only k a here) here_in (λ z h. here_in z (only_here k a here z h)) e alike in
+    let s = clone_exchange w v k here (with_only k a here) here_in (λ z h. here_in z (only_here k a here z h)) e alike in
     record {
       others = s.others;
       members = (

@@ -3,7 +3,7 @@ pub mod Strict
 pub mod Places
 pub mod Firsts
 pub mod Meanings
-pub mod Tabled
+pub mod FileWins
 pub mod Maximal
 pub mod Making
 pub mod Dominating

@@ -1,8 +1,9 @@
 pub mod Best
 pub mod Laws
 pub mod Elections
-pub mod Orders
-pub mod Compared
+pub mod Comparisons
+pub mod TieBreak
+pub mod Order
 pub mod Answers
-pub mod Both
 pub mod Worked
+pub mod inner

@@ -1,12 +1,12 @@
 -- Worked counts: small elections with their best and their strengths, as one works them out by hand. Assumes nothing.
-use Rattle.std.specs.Prelude.{ℕ, ◌<◌, Bool, false, ◌||◌, ◌≢◌, List, [], ◌∷◌, ◌++◌, replicate, Decides, ◌==◌, slice_index, slice_index_or}
-use Rattle.std.specs.List.{AllByRecursion}
-use Rattle.ballots.specs.Format.{unranked}
+use Rattle.std.specs.Prelude.{ℕ, ◌<◌, ◌≢◌, ◌↔◌, List, [], ◌∷◌, ◌++◌, replicate, slice_index, slice_index_or}
+use Rattle.std.specs.List.{All, Contains}
+use Rattle.ballots.specs.Ballots.{unranked}
 use Rattle.pairwise.specs.Counts.{win}
 use Rattle.paths.specs.Paths.{below, Strongest}
 use Rattle.best.specs.Best.{Best}
 
--- an election, the candidates that are among the best, and for each candidate the row of its strengths to all, with 0 to itself
+-- an election, the candidates that are among the best, and for each candidate its strengths to all, 0 to itself
 pub record WorkedCount : Type 0 where
   pub candidates : ℕ
   pub ballots : List (List ℕ)
@@ -14,37 +14,37 @@ pub record WorkedCount : Type 0 where
   pub strengths : List (List ℕ)
 
 -- each row of ranks stands behind the number of ballots that have it
-abbrev pub worked : List WorkedCount
-worked =
-    -- A
+abbrev pub worked_elections : List WorkedCount
+worked_elections =
+    -- a circle: 0 wins against 1, 1 against 2 and 2 against 0
     record {
       candidates = 3;
       ballots = replicate 4 (1 ∷ 2 ∷ 3 ∷ []) ++ replicate 3 (3 ∷ 1 ∷ 2 ∷ []) ++ replicate 2 (2 ∷ 3 ∷ 1 ∷ []);
       best = 0 ∷ [];
       strengths = (0 ∷ 6 ∷ 6 ∷ []) ∷ (5 ∷ 0 ∷ 7 ∷ []) ∷ (5 ∷ 5 ∷ 0 ∷ []) ∷ [];
     }
-    -- B
+    -- equal counts, which are nobody's win
     ∷ record {
       candidates = 2;
       ballots = replicate 3 (1 ∷ 2 ∷ []) ++ replicate 3 (2 ∷ 1 ∷ []);
       best = 0 ∷ 1 ∷ [];
       strengths = (0 ∷ 0 ∷ []) ∷ (0 ∷ 0 ∷ []) ∷ [];
     }
-    -- C
+    -- equal ranks
     ∷ record {
       candidates = 3;
       ballots = replicate 5 (1 ∷ 2 ∷ 2 ∷ []) ++ replicate 4 (2 ∷ 1 ∷ 1 ∷ []) ++ replicate 1 (2 ∷ 2 ∷ 1 ∷ []);
       best = 0 ∷ 2 ∷ [];
       strengths = (0 ∷ 5 ∷ 0 ∷ []) ∷ (0 ∷ 0 ∷ 0 ∷ []) ∷ (0 ∷ 1 ∷ 0 ∷ []) ∷ [];
     }
-    -- E
+    -- no ballots
     ∷ record {
       candidates = 3;
       ballots = [];
       best = 0 ∷ 1 ∷ 2 ∷ [];
       strengths = (0 ∷ 0 ∷ 0 ∷ []) ∷ (0 ∷ 0 ∷ 0 ∷ []) ∷ (0 ∷ 0 ∷ 0 ∷ []) ∷ [];
     }
-    -- G
+    -- a winner against every other one
     ∷ record {
       candidates = 4;
       ballots =
@@ -55,17 +55,13 @@ worked =
     }
     ∷ []
 
--- x is in the list
-abbrev pub among : List ℕ → ℕ → Bool
-among [] x = false
-among (y ∷ ys) x = x == y || among ys x
-
--- the count is right: between two candidates the number is the strength of the strongest path, and those listed are the best
-pub record Right (c : WorkedCount) : Type 0 where
+-- the count is right: between two candidates the number is the strength of the strongest path, and those listed are
+-- the best
+pub record IsRight (c : WorkedCount) : Type 0 where
   pub strengths : (x y : ℕ) → x < c.candidates → y < c.candidates → x ≢ y →
       Strongest (win unranked c.ballots) c.candidates x y (slice_index (slice_index_or c.strengths x []) y)
-  pub best : (x : ℕ) → Decides (among c.best x) (Best (win unranked c.ballots) (below c.candidates) x)
+  pub best : (x : ℕ) → Contains c.best x ↔ Best (win unranked c.ballots) (below c.candidates) x
 
 -- every worked count is right
 abbrev pub WorkedCounts : Type 0
-WorkedCounts = AllByRecursion Right worked
+WorkedCounts = All IsRight worked_elections

@@ -1,20 +1,13 @@
 // Who is ahead, who is among the best, the full order, and the laws of the method.
 #![tactic(auto)]
 
-mod compares;
-mod counts;
+mod answers;
+mod comparisons;
 pub mod laws;
-mod orders;
-mod ranking;
+mod order;
+mod tie_break;
 
-pub use compares::{ahead, best, best_by};
-pub use counts::{best_of, best_of_both};
-pub use orders::{TieBreak, full_order};
-pub use ranking::Order;
-
-// The set of the best of a file, and that of the file with candidates struck, who have other numbers there.
-#[derive(Clone, Copy)]
-pub struct Both {
-    pub all: u32,
-    pub kept: u32,
-}
+pub use answers::{Both, best_of, best_of_both};
+pub use comparisons::{ahead, best, best_by};
+pub use order::{Order, full_order};
+pub use tie_break::TieBreak;

@@ -1,4 +1,5 @@
-use Rattle.best.proofs.Compare.{best_by_strength, best_unbeaten}
+use Rattle.best.proofs.Compare.{best_unbeaten}
+use Rattle.best.proofs.Meanings.{best_by_strength}
 use Rattle.best.proofs.laws.best_by_strength_holds.Goals as goal
 
 pub returns : goal.returns

@@ -1,6 +1,6 @@
 use Rattle.best.proofs.Clones.{clone_independence}
-use Rattle.best.proofs.Elections as elections
+use Rattle.best.proofs.Elections.{clone_independence_by_ballots}
 use Rattle.best.proofs.laws.clone_independence_holds.Goals as goal
 
 pub returns : goal.returns
-returns c = record { any = clone_independence; ballots = elections.clone_independence }
+returns c = record { any = clone_independence; ballots = clone_independence_by_ballots }
