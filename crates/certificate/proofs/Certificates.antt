@@ -1,86 +1,89 @@
--- The certificate of counts: what it claims is as said, it is accepted, and counts that agree have one.
-use Rattle.std.proofs.Common.{◌≡◌, ℕ, ◌<◌, cond, ◌≢◌, List, get_or, None, sym, refl, ap, subst, inl, inr, arith}
-use Rattle.std.proofs.lemmas.Bool.{cases_lt, lt-ltb, le-ltb}
-use Rattle.ballots.specs.Format.{unranked, candidates_in, ballots_of}
+-- The certificate that is written: it is no longer than the longest, and what it claims is as said.
+use Rattle.std.proofs.Common.{ℕ, ◌+◌, ◌-◌, ◌*◌, ◌≤◌, List, [], ◌∷◌, ◌++◌, map, length, inl, inr, add-mul, arith, length-append, ◌≡◌, ◌<◌, ◌≢◌, None, refl, subst}
+use Rattle.std.specs.List.{flat_map, AllByRecursion}
+use Rattle.std.proofs.lemmas.Bool.{cases_lt, le-ltb}
+use Rattle.pairwise.specs.Counts.{win_by}
+use Rattle.pairwise.specs.Pairs.{pairs}
+use Rattle.pairwise.proofs.OrderedPairs.{length_pairs, pairs_each}
+use Rattle.paths.specs.Middles.{strength, row}
+use Rattle.paths.proofs.Parts.{row_shows}
+use Rattle.best.specs.Comparisons.{best_by}
+use Rattle.certificate.specs.Layout.{number_size, set_bytes, set_size, table_bytes, entry_bytes, certificate_of}
+use Rattle.certificate.specs.Certified.{entry_of, entries_by, certificate_by, longest}
+use Rattle.certificate.proofs.Tables.{table_length}
+use Rattle.certificate.proofs.Writing.{entry_length}
+use Rattle.ballots.specs.Format.{candidates_in}
 use Rattle.ballots.specs.Refusals.{refusal}
-use Rattle.ballots.specs.Sets.{set_of}
-use Rattle.pairwise.specs.Counts.{count, win_by, win}
-use Rattle.pairwise.proofs.Rows.{rows_same}
-use Rattle.paths.specs.Paths.{below, strength}
-use Rattle.paths.specs.Rows.{row}
-use Rattle.paths.specs.Cuts.{Cut, nearer, cut}
-use Rattle.paths.proofs.Walks.{in_below, below_in}
-use Rattle.paths.proofs.Pairs.{two_pair, strength_is}
-use Rattle.paths.proofs.Rows.{path_shown}
+use Rattle.pairwise.specs.Pairwise.{counts_of}
+use Rattle.paths.specs.Cuts.{Cut}
+use Rattle.paths.proofs.Pairs.{two_pair}
 use Rattle.paths.proofs.Crossings.{nearer_cuts}
-use Rattle.best.specs.Compared.{best_by}
 use Rattle.best.proofs.Meanings.{best_meaning}
-use Rattle.certificate.specs.Layout.{two_bytes, claim_bytes, certificate_of}
-use Rattle.certificate.specs.Judge.{judge}
-use Rattle.certificate.specs.Truth.{PathOrNone, Supported}
-use Rattle.certificate.specs.Certified.{found, certificate_by, strengths_by}
-use Rattle.certificate.proofs.Agreed.{strength_same, row_same, cut_same, best_agreed}
-use Rattle.certificate.proofs.Exact.{said_judged}
-use Rattle.certificate.proofs.Same.{pairs_same}
+use Rattle.certificate.specs.Truth.{Supports, AllSupported, AsSaid}
 
--- what is found is as said
+-- the entries: a path has no candidate twice
 module _ (w : ℕ → ℕ → ℕ) (v : ℕ) where
-  found_path : (x y : ℕ) → x < v → y < v → x ≢ y → PathOrNone w v x y (strength w v x y) (row w v x y)
-  found_path x y lx ly ne = elim (cases_lt 0 (strength w v x y)) [
-    | inl pos ↦
-        let is = strength_is w v x y (two_pair v x y lx ly ne) in
-        inr (rw (lt-ltb 0 (strength w v x y) pos, is)
-        (path_shown w (below v) v x y (below_in v) (in_below v x lx) (in_below v y ly) ne (rw is at pos)).shows)
-    | inr none ↦ inl (rw (le-ltb 0 (strength w v x y) none), omega arith)
+  path_short : (x y : ℕ) → length (row w v x y) ≤ v
+  path_short x y = elim (cases_lt 0 (strength w v x y)) [
+    | inl some ↦ (row_shows w v x y some).short
+    | inr none ↦ rw (le-ltb 0 (strength w v x y) none) (omega arith)
   ]
 
-  found_cut : (x y : ℕ) → x < v → y < v → x ≢ y → Cut w v x y (strength w v x y) (cut w v x y)
-  found_cut x y lx ly ne =
-      let e = two_pair v x y lx ly ne in
-      let is : cut w v x y ≡ set_of (nearer w v x y) v = ap (λ b. cond b (set_of (nearer w v x y) v) 0) e in
-      subst (λ s. Cut w v x y (strength w v x y) s) (sym is) (nearer_cuts w v x y e)
+  parts_short : (xys : List (ℕ × ℕ)) →
+      length (flat_map entry_bytes (map (λ xy. entry_of w v xy.0 xy.1) xys)) ≤ length xys * (number_size + 1 + v + set_size)
+  parts_short [] = omega arith
+  parts_short (xy ∷ xys) =
+      let e = entry_of w v xy.0 xy.1 in
+      omega (
+        arith,
+        length-append (entry_bytes e) (flat_map entry_bytes (map (λ xy. entry_of w v xy.0 xy.1) xys)),
+        entry_length e,
+        path_short xy.0 xy.1,
+        parts_short xys,
+        add-mul (length xys) 1 (number_size + 1 + v + set_size),
+      )
 
-  found_supported : Supported w v (found w v)
-  found_supported = record { paths = found_path; cuts = found_cut }
+  entries_short : length (flat_map entry_bytes (entries_by w v)) ≤ v * (v - 1) * (number_size + 1 + v + set_size)
+  entries_short = rw (← length_pairs v) (parts_short (pairs v))
 
--- the certificate of accepted ballots is accepted
-pub certificate_accepted : (bytes : List ℕ) → ((i : ℕ) → get_or bytes i 0 < 256) → refusal bytes ≡ None →
-    judge bytes (certificate_by (candidates_in bytes) (count unranked (ballots_of bytes))) ≡ None
-unfolding win certificate_by
-certificate_accepted bytes small none =
-    let v : ℕ = candidates_in bytes in
-    let w : ℕ → ℕ → ℕ = win_by (count unranked (ballots_of bytes)) in
-    said_judged bytes _ small (record {
-      accepted = none;
-      claims = found w v;
-      supported = found_supported w v;
+pub certificate_short : (v : ℕ) (n : ℕ → ℕ → ℕ) → length (certificate_by v n) ≤ longest v
+unfolding certificate_by certificate_of
+certificate_short v n =
+    let entries = flat_map entry_bytes (entries_by (win_by n) v) in
+    let best = set_bytes (best_by (strength (win_by n) v) v) in
+    omega (arith, length-append (table_bytes v n) (entries ++ best), length-append entries best, table_length v n, entries_short (win_by n) v)
+
+module _ (w : ℕ → ℕ → ℕ) (v : ℕ) where
+  entry_supported : (x y : ℕ) → x < v → y < v → x ≢ y → Supports w v x y (entry_of w v x y)
+  entry_supported x y xv yv ne =
+      let two = two_pair v x y xv yv ne in
+      record {
+        path = elim (cases_lt 0 (strength w v x y)) [
+          | inl some ↦ inr (row_shows w v x y some).shows
+          | inr none ↦ rw (le-ltb 0 (strength w v x y) none) (inl (refl, omega arith))
+        ];
+        cut = subst (λ set. Cut w v x y (strength w v x y) set) (rw two) (nearer_cuts w v x y two);
+      }
+
+  each_supported : (xys : List (ℕ × ℕ)) → AllByRecursion (λ xy. Supports w v xy.0 xy.1 (entry_of w v xy.0 xy.1)) xys →
+      AllSupported w v xys (map (λ xy. entry_of w v xy.0 xy.1) xys)
+  each_supported [] h = tt
+  each_supported (xy ∷ xys) h = (h.0, each_supported xys h.1)
+
+  entries_supported : AllSupported w v (pairs v) (entries_by w v)
+  entries_supported = each_supported (pairs v) (pairs_each (λ xy. Supports w v xy.0 xy.1 (entry_of w v xy.0 xy.1)) v entry_supported)
+
+-- so the certificate is
+pub certificate_said : (bytes : List ℕ) → refusal bytes ≡ None → AsSaid bytes (certificate_by (candidates_in bytes) (counts_of bytes))
+unfolding certificate_by
+certificate_said bytes accepted =
+    let w = win_by (counts_of bytes) in
+    let v = candidates_in bytes in
+    record {
+      accepted = accepted;
+      entries = entries_by w v;
+      supported = entries_supported w v;
       set = best_by (strength w v) v;
       best = best_meaning w v;
       layout = refl;
-    })
-
--- counts that agree on the candidates have one certificate
-module _ (v : ℕ) (n m : ℕ → ℕ → ℕ) (agree : (x y : ℕ) → x < v → y < v → n x y ≡ m x y) where
-  wins_agree : (x y : ℕ) → x < v → y < v → win_by n x y ≡ win_by m x y
-  wins_agree x y lx ly = rw (agree x y lx ly, agree y x ly lx)
-
-  claim_agreed : (x y : ℕ) → claim_bytes (found (win_by n) v) x y ≡ claim_bytes (found (win_by m) v) x y
-  unfolding claim_bytes
-  claim_agreed x y =
-      rw (row_same v (win_by n) (win_by m) wins_agree x y, cut_same v (win_by n) (win_by m) wins_agree x y, strength_same v (win_by n) (win_by m) wins_agree x y)
-
-  pub strengths_agreed : strengths_by v n ≡ strengths_by v m
-  strengths_agreed =
-      rows_same v (strength (win_by n) v) (strength (win_by m) v) (λ x y _ _. strength_same v (win_by n) (win_by m) wins_agree x y)
-
-  pub best_same_by : best_by (strength (win_by n) v) v ≡ best_by (strength (win_by m) v) v
-  best_same_by = best_agreed v (win_by n) (win_by m) wins_agree
-
-  pub certificate_agreed : certificate_by v n ≡ certificate_by v m
-  unfolding certificate_by certificate_of
-  certificate_agreed =
-      rw (
-        pairs_same (λ x y. two_bytes (n x y)) (λ x y. two_bytes (m x y)) v (λ x y lx ly. ap two_bytes (agree x y lx ly)),
-        pairs_same (claim_bytes (found (win_by n) v)) (claim_bytes (found (win_by m) v)) v (λ x y _ _. claim_agreed x y),
-        best_same_by,
-      )
+    }

@@ -1,168 +1,102 @@
--- What is written to the slices that are lent.
-use Rattle.std.proofs.Common.{◌≡◌, ℕ, ◌+◌, ◌*◌, ◌<◌, ◌≤◌, List, ◌++◌, length, get_or, take, drop, None, Ok, Err, IfOk, Result, sym, refl, ap, ◌∙◌, arith}
-use Rattle.std.proofs.lemmas.List.{take_at}
-use Rattle.std.proofs.lemmas.Bool.{lt-ltb, le-ltb}
-use Rattle.std.proofs.lemmas.Bool.Decides.{nat_tests}
-use Rattle.ballots.specs.declared.refusal.Lent.{Lent}
+-- What a call that certifies answers, and what it leaves in the slices that it is lent.
+use Rattle.std.proofs.Common.{◌≡◌, ℕ, List, Result, subst, length, take, drop, Some, None, Ok, Err, IfOk, Option, sym, refl, ap, ◌∙◌}
 use Rattle.ballots.specs.declared.refusal.Lent.TheVariants as lent
 use Rattle.ballots.specs.declared.refusal.Refusal.{Refusal}
-use Rattle.ballots.specs.Format.{unranked, candidates_in, ballots_of}
-use Rattle.ballots.specs.Lending.{answered}
-use Rattle.pairwise.specs.declared.Pairwise.{Pairwise}
-use Rattle.pairwise.specs.Counts.{count, win_by, win}
-use Rattle.pairwise.specs.Grids.{cell, number_for, rows, table, Copied}
-use Rattle.pairwise.specs.Tables.{win_in, PairwiseOf}
-use Rattle.pairwise.proofs.Rows.{length_rows, rows_same}
-use Rattle.paths.specs.Paths.{strength}
-use Rattle.paths.specs.Strengths.{strength_in, strength_table}
-use Rattle.paths.specs.Found.{put, Wrote}
-use Rattle.best.specs.Compared.{best_by, BestSet}
-use Rattle.best.proofs.Meanings.{best_meaning}
-use Rattle.best.proofs.Tabled.{grid_count}
-use Rattle.certificate.specs.declared.Certified.{Certified}
-use Rattle.certificate.specs.Judge.{judge}
-use Rattle.certificate.specs.Certified.{certificate_by, strengths_by, longest, room_refusal, certify_refusal, certified_by, certified, CertifiesTable, Certifies}
-use Rattle.certificate.specs.Parts.{certificate_in}
-use Rattle.certificate.proofs.Moves.{answered_err}
-use Rattle.ballots.proofs.Lending.{answered_ok}
-use Rattle.certificate.proofs.Certificates.{certificate_accepted, strengths_agreed, best_same_by, certificate_agreed}
-use Rattle.certificate.proofs.Truths.{one_best_set}
+use Rattle.pairwise.specs.Counts.{win_by}
+use Rattle.pairwise.specs.Grids.{number_for, rows, Copied}
+use Rattle.paths.specs.Middles.{strength}
+use Rattle.best.specs.Comparisons.{best_by, BestSet}
+use Rattle.best.proofs.Meanings.{is_best}
+use Rattle.certificate.specs.declared.counted.Counted.{Counted}
+use Rattle.certificate.specs.Certified.{strengths_by, certificate_by, no_sheet_room, room_refusal, Leaves}
+use Rattle.std.proofs.lemmas.Bool.Decides.{nat_tests}
+use Rattle.std.proofs.lemmas.List.{take_at}
+use Rattle.std.specs.Option.{option_or}
+use Rattle.ballots.specs.declared.refusal.Lent.{Lent}
+use Rattle.ballots.specs.Format.{candidates_in, ballots_in}
+use Rattle.ballots.specs.Loans.{result_of, slice_after, no_room}
+use Rattle.ballots.specs.Refusals.{refusal}
+use Rattle.ballots.proofs.Loans.{result_of-ok, neither}
+use Rattle.pairwise.specs.declared.pairwise.Pairwise.{Pairwise}
+use Rattle.pairwise.specs.Pairwise.{counts_of, PairwiseOf}
+use Rattle.pairwise.proofs.Rows.{length-rows}
+use Rattle.certificate.specs.declared.certification.Certified.{Certified}
 
--- all slices have room
-pub record Room (v table strengths sheet : ℕ) : Type 0 where
-  pub for_table : v * v ≤ table
-  pub for_strengths : v * v ≤ strengths
-  pub for_sheet : longest v ≤ sheet
+module _ (c : Counted) where
+  abbrev n : ℕ → ℕ → ℕ
+  n = number_for c.pairwise.counts
 
-pub room_parts : (v table strengths sheet : ℕ) → answered {A = Unit {0}} (room_refusal v table strengths sheet) tt ≡ Ok tt → Room v table strengths sheet
-room_parts v table strengths sheet h =
-    let k = (answered_ok (room_refusal v table strengths sheet) tt tt h).0 in
-    record { for_table = grind (arith, nat_tests); for_strengths = grind (arith, nat_tests); for_sheet = grind (arith, nat_tests) }
+  abbrev v : ℕ
+  v = c.pairwise.counts.candidates
 
-parts_room : (v table strengths sheet : ℕ) → Room v table strengths sheet → room_refusal v table strengths sheet ≡ None
-parts_room v table strengths sheet r =
-    rw (le-ltb table (v * v) r.for_table, le-ltb strengths (v * v) r.for_strengths, le-ltb sheet (longest v) r.for_sheet)
+  pub by_counts : (P : (ℕ → ℕ → ℕ) → ℕ → Type 0) → P (number_for c.strengths.wins) c.strengths.wins.candidates → P (win_by n) v
+  by_counts P p = subst (λ w. P w v) c.by_wins (subst (λ k. P (number_for c.strengths.wins) k) c.few p)
 
--- numbers that have room are copied
-copied_room : {lent : Lent} {numbers old new : List ℕ} {r : Result (Unit {0}) Refusal} → length numbers ≤ length old → Copied lent numbers old new r →
-    (r ≡ Ok tt) × (new ≡ numbers ++ drop (length numbers) old)
-copied_room {numbers = numbers} {old = old} h c = let e = le-ltb (length old) (length numbers) h in (c.answer ∙ rw e, c.after ∙ rw e)
+  -- the strengths that are copied, and the set of the best
+  pub copied_strengths : {old new : List ℕ} {r : Result (Unit {0}) Refusal} →
+      Copied lent.Strengths (rows c.strengths.wins.candidates (strength (number_for c.strengths.wins) c.strengths.wins.candidates)) old new r →
+      Copied lent.Strengths (strengths_by v n) old new r
+  copied_strengths {old} {new} {r} h = by_counts (λ w v. Copied lent.Strengths (rows v (strength w v)) old new r) h
 
-pub copied_never : {lent : Lent} {numbers old new : List ℕ} {e : Refusal} → length numbers ≤ length old → Copied lent numbers old new (Err e) → ⊥
-copied_never h c = let k = (copied_room h c).0 in let z : ◌≡◌ {A = ℕ} 0 1 = cc in omega arith
+  pub best_counted : {set : ℕ} → BestSet (number_for c.strengths.wins) c.strengths.wins.candidates set → set ≡ best_by (strength (win_by n) v) v
+  best_counted {set} h = by_counts (λ w v. set ≡ best_by (strength w v) v) (is_best (number_for c.strengths.wins) c.strengths.wins.candidates h)
 
-pub table_fits : (t : Pairwise) (room : ℕ) → t.counts.candidates * t.counts.candidates ≤ room → length (table t.counts) ≤ room
-table_fits t room h = omega (arith, length_rows t.counts.candidates (cell t.counts.cells))
+-- whether there is room
+pub ruleset room = (nat_tests, length-rows)
 
-pub strengths_fit : (t : Pairwise) (room : ℕ) → t.counts.candidates * t.counts.candidates ≤ room → length (strength_table t) ≤ room
-strengths_fit t room h = omega (arith, length_rows t.counts.candidates (strength_in t))
+-- a call that is refused answers why, and leaves all as it was
+pub refused_is : {A : Type 0} (o : Option Refusal) (a : A) (e : Refusal) → Err e ≡ result_of o a → o ≡ Some e
+refused_is None a e h = absurd (cc)
+refused_is (Some f) a e h = cc
 
--- nothing is written where there is no room
-pub not_certified : (t : Pairwise) (numbers strengths sheet : List ℕ) {e : Refusal} →
-    Err e ≡ answered {A = Unit {0}} (room_refusal t.counts.candidates (length numbers) (length strengths) (length sheet)) tt →
-    CertifiesTable t numbers numbers strengths strengths sheet sheet (Err e)
-not_certified t numbers strengths sheet {e} h =
-    let k = answered_err (room_refusal t.counts.candidates (length numbers) (length strengths) (length sheet)) tt e (sym h) in
-    record { answer = rw k refl; table_after = rw k refl; strengths_after = rw k refl; sheet_after = rw k refl }
+pub leaves_all : {o : Option Refusal} {e : Refusal} (v : ℕ) (n : ℕ → ℕ → ℕ) (table strengths sheet : List ℕ) → o ≡ Some e →
+    Leaves o v n table table strengths strengths sheet sheet
+leaves_all v n table strengths sheet is = rw is (record { table_after = refl; strengths_after = refl; sheet_after = refl })
 
--- what was written by a table
-module _ (t : Pairwise) (numbers numbers' strengths strengths' sheet sheet' : List ℕ) (best len : ℕ)
-    (room : Room t.counts.candidates (length numbers) (length strengths) (length sheet))
-    (counted : Copied lent.Table (table t.counts) numbers numbers' (Ok tt))
-    (strong : Copied lent.Strengths (strength_table t) strengths strengths' (Ok tt))
-    (is_best : best ≡ best_by (strength_in t) t.counts.candidates)
-    (wrote : Wrote (certificate_in t best) 0 sheet sheet' len) where
-  abbrev certificate : List ℕ
-  certificate = certificate_by t.counts.candidates (number_for t.counts)
+-- a call that is not refused has room for each part, and writes it to the front
+pub copied_never : (lent : Lent) {numbers old new : List ℕ} {e : Refusal} → no_room lent numbers old ≡ None →
+    Copied lent numbers old new (Err e) → ⊥
+copied_never lent none f = let h = f.answer ∙ ap (λ o. result_of o tt) none in absurd (cc)
 
-  not_refused : room_refusal t.counts.candidates (length numbers) (length strengths) (length sheet) ≡ None
-  not_refused = parts_room _ _ _ _ room
+pub record HasRooms (v : ℕ) (n : ℕ → ℕ → ℕ) (table strengths sheet : List ℕ) : Type 0 where
+  pub none : room_refusal v n table strengths sheet ≡ None
+  pub for_table : no_room lent.Table (rows v n) table ≡ None
+  pub for_strengths : no_room lent.Strengths (strengths_by v n) strengths ≡ None
 
-  is_table : table t.counts ≡ rows t.counts.candidates (number_for t.counts)
-  is_table = rows_same t.counts.candidates (cell t.counts.cells) (number_for t.counts) (λ x y lx ly. rw (lt-ltb x t.counts.candidates lx, lt-ltb y t.counts.candidates ly) refl)
+module _ (v : ℕ) (n : ℕ → ℕ → ℕ) (table strengths sheet : List ℕ) where
+  pub has_rooms : Ok tt ≡ result_of {A = Unit {0}} (room_refusal v n table strengths sheet) tt → HasRooms v n table strengths sheet
+  has_rooms h =
+      let none = (result_of-ok (room_refusal v n table strengths sheet) tt tt (sym h)).0 in
+      let rest = option_or (no_room lent.Strengths (strengths_by v n) strengths) (no_sheet_room v sheet) in
+      let first = neither (no_room lent.Table (rows v n) table) rest none in
+      let second = neither (no_room lent.Strengths (strengths_by v n) strengths) (no_sheet_room v sheet) first.1 in
+      record { none = none; for_table = first.0; for_strengths = second.0 }
 
-  is_certificate : certificate_in t best ≡ certificate
-  unfolding certificate_by
-  is_certificate = rw is_best refl
+  pub leaves_fronts : {table' strengths' sheet' : List ℕ} → HasRooms v n table strengths sheet →
+      Copied lent.Table (rows v n) table table' (Ok tt) → Copied lent.Strengths (strengths_by v n) strengths strengths' (Ok tt) →
+      sheet' ≡ slice_after None sheet (certificate_by v n) →
+      Leaves (room_refusal v n table strengths sheet) v n table table' strengths strengths' sheet sheet'
+  leaves_fronts r t s w =
+      rw r.none (record {
+        table_after = t.after ∙ ap (λ o. slice_after o table (rows v n)) r.for_table;
+        strengths_after = s.after ∙ ap (λ o. slice_after o strengths (strengths_by v n)) r.for_strengths;
+        sheet_after = w;
+      })
 
-  long : len ≡ length certificate
-  long = wrote.stop ∙ omega (arith, ap length is_certificate)
+-- what is said of the table of ballots that are accepted, said of the ballots
+pub by_ballots :
+    {bs : List ℕ} {t : Pairwise} (P : Option Refusal → ℕ → ℕ → (ℕ → ℕ → ℕ) → Type 0) → PairwiseOf bs t →
+    P None t.ballots t.counts.candidates (number_for t.counts) → P (refusal bs) (ballots_in bs) (candidates_in bs) (counts_of bs)
+by_ballots {bs} {t} P h p =
+    subst (λ o. P o (ballots_in bs) (candidates_in bs) (counts_of bs)) (sym h.accepted)
+    (subst (λ b. P None b (candidates_in bs) (counts_of bs)) h.ballots
+    (subst (λ v. P None t.ballots v (counts_of bs)) h.candidates (subst (λ n. P None t.ballots t.counts.candidates n) h.counts p)))
 
-  front : sheet' ≡ certificate ++ drop (length certificate) sheet
-  unfolding put
-  front = let z : 0 + length certificate ≡ length certificate = omega arith in wrote.after ∙ rw (is_certificate, z)
-
-  pub certifies_table : CertifiesTable t numbers numbers' strengths strengths' sheet sheet' (Ok (record { ballots = t.ballots; best = best; length = len }))
-  certifies_table =
-      record {
-        answer = rw (not_refused, is_best, long) refl;
-        table_after = rw not_refused ((copied_room (table_fits t (length numbers) room.for_table) counted).1 ∙ rw is_table refl);
-        strengths_after = rw not_refused (copied_room (strengths_fit t (length strengths) room.for_strengths) strong).1;
-        sheet_after = rw not_refused front;
-      }
-
-  pub best_of_table : BestSet (win_in t) t.counts.candidates best
-  best_of_table = rw is_best (best_meaning (win_in t) t.counts.candidates)
-
--- the same, said of the ballots whose table it is
-module _ (bytes : List ℕ) (t : Pairwise) (h : PairwiseOf bytes t) where
-  agree : (x y : ℕ) → x < t.counts.candidates → y < t.counts.candidates → number_for t.counts x y ≡ count unranked (ballots_of bytes) x y
-  agree x y lx ly = let e = h.candidates in grid_count bytes t h x y (omega arith) (omega arith)
-
-  abbrev counts : ℕ → ℕ → ℕ
-  counts = count unranked (ballots_of bytes)
-
-  -- what agrees for the candidates of the table agrees for those of the ballots
-  counted : {A : Type 0} (f : ℕ → (ℕ → ℕ → ℕ) → A) → f t.counts.candidates (number_for t.counts) ≡ f t.counts.candidates counts →
-      f t.counts.candidates (number_for t.counts) ≡ f (candidates_in bytes) counts
-  counted f e = e ∙ ap (λ k. f k counts) h.candidates
-
-  rows_counted : rows t.counts.candidates (number_for t.counts) ≡ rows (candidates_in bytes) counts
-  rows_counted = counted rows (rows_same t.counts.candidates (number_for t.counts) counts agree)
-
-  strengths_counted : strengths_by t.counts.candidates (number_for t.counts) ≡ strengths_by (candidates_in bytes) counts
-  strengths_counted = counted strengths_by (strengths_agreed t.counts.candidates (number_for t.counts) counts agree)
-
-  best_counted : best_by (strength_in t) t.counts.candidates ≡ (certified bytes).best
-  best_counted = counted (λ v n. best_by (strength (win_by n) v) v) (best_same_by t.counts.candidates (number_for t.counts) counts agree)
-
-  certificate_counted : certificate_by t.counts.candidates (number_for t.counts) ≡ certificate_by (candidates_in bytes) counts
-  certificate_counted = counted certificate_by (certificate_agreed t.counts.candidates (number_for t.counts) counts agree)
-
-  certified_counted : certified_by t.ballots t.counts.candidates (number_for t.counts) ≡ certified bytes
-  certified_counted = rw (h.ballots, best_counted, certificate_counted) refl
-
-  pub certifies : (numbers numbers' strengths strengths' sheet sheet' : List ℕ) (r : Result Certified Refusal) →
-      CertifiesTable t numbers numbers' strengths strengths' sheet sheet' r → Certifies bytes numbers numbers' strengths strengths' sheet sheet' r
-  certifies numbers numbers' strengths strengths' sheet sheet' r c =
-      let e : room_refusal t.counts.candidates (length numbers) (length strengths) (length sheet) ≡ certify_refusal bytes (length numbers) (length strengths) (length sheet) =
-      rw (h.accepted, h.candidates) refl in
-      record {
-        answer = c.answer ∙ rw (e, certified_counted) refl;
-        table_after = c.table_after ∙ rw (e, rows_counted) refl;
-        strengths_after = c.strengths_after ∙ rw (e, strengths_counted) refl;
-        sheet_after = c.sheet_after ∙ rw (e, certificate_counted) refl;
-      }
-
-  best_counts : (best : ℕ) → BestSet (win_in t) t.counts.candidates best → BestSet (win unranked (ballots_of bytes)) (candidates_in bytes) best
-  unfolding win
-  best_counts best b =
-      let e = one_best_set (win_in t) t.counts.candidates best _ b (best_meaning (win_in t) t.counts.candidates) in
-      rw (e ∙ best_counted) (best_meaning (win_by counts) (candidates_in bytes))
-
-  pub best_said : (r : Result Certified Refusal) → IfOk r (λ c. BestSet (win_in t) t.counts.candidates c.best) →
-      IfOk r (λ c. BestSet (win unranked (ballots_of bytes)) (candidates_in bytes) c.best)
-  best_said (Ok c) b = best_counts c.best b
-  best_said (Err e) b = tt
-
-  -- its certificate is accepted
-  pub accepted_said : ((i : ℕ) → get_or bytes i 0 < 256) → (numbers numbers' strengths strengths' sheet sheet' : List ℕ) (r : Result Certified Refusal) →
-      Certifies bytes numbers numbers' strengths strengths' sheet sheet' r → IfOk r (λ c. judge bytes (take c.length sheet') ≡ None)
-  accepted_said small numbers numbers' strengths strengths' sheet sheet' (Ok c) k =
-      let certificate : List ℕ = certificate_by (candidates_in bytes) counts in
-      let (none, is) = answered_ok (certify_refusal bytes (length numbers) (length strengths) (length sheet)) (certified bytes) c (sym k.answer) in
-      let long : c.length ≡ length certificate = ap (λ d. d.length) (sym is) in
-      let front : sheet' ≡ certificate ++ drop (length certificate) sheet = k.sheet_after ∙ rw none refl in
-      let e : take c.length sheet' ≡ certificate = rw (front, long) (take_at certificate (drop (length certificate) sheet) (length certificate) refl) in
-      rw e (certificate_accepted bytes small h.accepted)
-  accepted_said small numbers numbers' strengths strengths' sheet sheet' (Err e) k = tt
+-- and what holds of the front that is written holds of the first bytes, as many as are answered
+pub front_is :
+    (P : List ℕ → Type 0) (refused : Option Refusal) (answer : Certified) (front sheet : List ℕ) {sheet' : List ℕ} {r : Result Certified Refusal} →
+    P front → answer.length ≡ length front → r ≡ result_of refused answer → sheet' ≡ slice_after refused sheet front →
+    IfOk r (λ c. P (take c.length sheet'))
+front_is P None answer front sheet p long is after =
+    rw (is, after, long) (rw (take_at front (drop (length front) sheet) (length front) refl) p)
+front_is P (Some e) answer front sheet p long is after = rw is tt

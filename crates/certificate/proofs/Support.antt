@@ -1,91 +1,145 @@
 -- The tests of a path and of a cut say what they should.
-use Rattle.std.proofs.Common.{◌≡◌, ℕ, ◌^◌, ◌<◌, true, not, ◌&&◌, eqb, ltb, ◌≢◌, List, [], ◌∷◌, refl, ap, inl, inr, arith}
-use Rattle.std.proofs.lemmas.Bool.{cases_Bool, and_parts, and_from, eqb-true, eq-eqb, ltb-true, lt-ltb, le-ltb, not-true, not_from_false}
+use Rattle.std.proofs.Common.{◌≡◌, ℕ, ◌^◌, ◌<◌, ◌≤◌, min, Bool, true, not, eqb, ltb, leb, ◌≢◌, ◌⊎◌, List, [], ◌∷◌, sym, refl, ap, ◌∙◌, inl, inr, arith}
+use Rattle.std.specs.List.{AllByRecursion, list_all}
+use Rattle.std.proofs.lemmas.Bool.{cases_Bool, and_parts, and_from, cases_lt, eqb-true, eq-eqb, ltb-true, lt-ltb, le-ltb, not-true, not_from_false, false≢true}
 use Rattle.std.proofs.lemmas.Bool.Decides.{nat_tests}
-use Rattle.ballots.specs.Sets.{holds, every}
-use Rattle.ballots.proofs.Everybody.{every_at, every_all}
-use Rattle.paths.specs.Paths.{below}
-use Rattle.paths.specs.Rows.{Leads, weakest}
+use Rattle.ballots.specs.Format.{most_candidates}
+use Rattle.ballots.specs.Sets.{holds, set_of, room}
+use Rattle.ballots.proofs.Masks.{everybody}
+use Rattle.pairwise.specs.declared.pairwise.Pairwise.{Pairwise}
+use Rattle.pairwise.specs.Counts.{win_by}
+use Rattle.pairwise.specs.Grids.{cell, within}
+use Rattle.pairwise.specs.Pairs.{pairs}
+use Rattle.pairwise.specs.Pairwise.{win_in}
+use Rattle.pairwise.proofs.OrderedPairs.{pairs_each, pairs_at}
+use Rattle.paths.specs.Paths.{below, IsPair, Strongest}
+use Rattle.paths.specs.Middles.{strength}
+use Rattle.paths.specs.Rows.{Leads, weakest, Shows}
 use Rattle.paths.specs.Cuts.{Cut}
-use Rattle.paths.proofs.Walks.{in_below, below_in}
-use Rattle.certificate.specs.Judge.{leads, is_path, crosses, is_cut}
-use Rattle.certificate.specs.Truth.{PathOrNone}
+use Rattle.paths.proofs.Walks.{in_below}
+use Rattle.paths.proofs.Crossings.{path_and_cut}
+use Rattle.paths.proofs.Grids.{is_strength}
+use Rattle.certificate.specs.Layout.{Entry}
+use Rattle.certificate.specs.Judge.{weakest_to, is_path, crosses, is_cut}
+use Rattle.certificate.specs.Truth.{Supports}
 
-module _ (w : ℕ → ℕ → ℕ) (v : ℕ) where
-  -- a row leads on
-  leads_true : (x y : ℕ) (zs : List ℕ) → leads w v x zs y ≡ true → Leads w (below v) x zs y
-  leads_true x y [] h = eqb-true x y h
-  leads_true x y (z ∷ zs) h =
-      let p = and_parts (ltb z v) _ h in
-      let q = and_parts (ltb 0 (w x z)) _ p.1 in
-      (in_below v z (ltb-true z v p.0), ltb-true 0 (w x z) q.0, leads_true z y zs q.1)
+-- no candidate but those below v
+pub within_all : (set v : ℕ) → v ≤ most_candidates → leb set (set_of (λ _. true) (min v room)) ≡ ltb set (2 ^ v)
+within_all set v few = let e : min v room ≡ v = omega arith in rw e (let k = everybody v in grind (arith, nat_tests))
 
-  true_leads : (x y : ℕ) (zs : List ℕ) → Leads w (below v) x zs y → leads w v x zs y ≡ true
-  true_leads x y [] h = eq-eqb x y h
-  true_leads x y (z ∷ zs) h =
-      and_from (ltb z v) _ (lt-ltb z v (below_in v z h.0)) (and_from (ltb 0 (w x z)) _ (lt-ltb 0 (w x z) h.1) (true_leads z y zs h.2))
+-- a test that every element passes
+list_all_each : {X : Type 0} (f : X → Bool) (xs : List X) → list_all f xs ≡ true → AllByRecursion (λ x. f x ≡ true) xs
+list_all_each f [] h = tt
+list_all_each f (x ∷ xs) h = let p = and_parts (f x) _ h in (p.0, list_all_each f xs p.1)
 
-  -- its weakest win is one
-  leads_wins : (x y z : ℕ) (zs : List ℕ) → Leads w (below v) x (z ∷ zs) y → 0 < weakest w x (z ∷ zs)
-  leads_wins x y z [] h = h.1
-  leads_wins x y z (a ∷ zs) h = let k = leads_wins z y a zs h.2 in omega (arith, h.1)
+each_list_all : {X : Type 0} (f : X → Bool) (xs : List X) → AllByRecursion (λ x. f x ≡ true) xs → list_all f xs ≡ true
+each_list_all f [] h = refl
+each_list_all f (x ∷ xs) h = and_from (f x) _ h.0 (each_list_all f xs h.1)
 
-  row_wins : (x y : ℕ) (zs : List ℕ) → x ≢ y → Leads w (below v) x zs y → 0 < weakest w x zs
-  row_wins x y [] ne h = absurd (ne h)
-  row_wins x y (z ∷ zs) ne h = leads_wins x y z zs h
+-- wins of which nobody has one against whoever is no candidate
+module _ (w : ℕ → ℕ → ℕ) (v : ℕ) (none : (a z : ℕ) → v ≤ z → w a z ≡ 0) where
+  won : (x z : ℕ) → 0 < w x z → below v z ≡ true
+  won x z h = elim (cases_lt z v) [ inl l ↦ in_below v z l | inr l ↦ absurd (let e = none x z l in let f : ⊥ = omega arith in f) ]
 
-  pub path_true : (x y s : ℕ) (row : List ℕ) → x < v → x ≢ y → is_path w v x y s row ≡ true → PathOrNone w v x y s row
-  unfolding is_path
-  path_true x y s [] lx ne h = inl (refl, eqb-true s 0 h)
-  path_true x y s (z ∷ zs) lx ne h =
-      let p = and_parts (eqb z x) _ h in
-      let q = and_parts (leads w v x zs y) _ p.1 in
-      let l = leads_true x y zs q.0 in
-      let k : weakest w x zs ≡ s = eqb-true (weakest w x zs) s q.1 in
-      inr (record {
-        rest = zs;
-        first = ap (λ a. a ∷ zs) (eqb-true z x p.0);
-        stands = in_below v x lx;
-        leads = l;
-        weak = k;
-        some = rw (← k) (row_wins x y zs ne l);
-      })
+  -- a row with some weakest win leads on, and one that leads on has its weakest win
+  leads_on : (x y : ℕ) (zs : List ℕ) → 0 < weakest_to w y x zs → Leads w (below v) x zs y × (weakest w x zs ≡ weakest_to w y x zs)
+  leads_on x y [] h = absurd (let f : ⊥ = omega arith in f)
+  leads_on x y (z ∷ []) h =
+      let e : z ≡ y = grind (arith, nat_tests) in
+      let k : 0 < w x z = grind (arith, nat_tests) in
+      ((won x z k, k, e), grind (arith, nat_tests))
+  leads_on x y (z ∷ (a ∷ zs)) h =
+      let k : 0 < w x z = omega arith in
+      let r = leads_on z y (a ∷ zs) (omega arith) in
+      ((won x z k, k, r.0), rw r.1)
 
-  pub true_path : (x y s : ℕ) (row : List ℕ) → PathOrNone w v x y s row → is_path w v x y s row ≡ true
-  unfolding is_path
-  true_path x y s row (inl (e, z)) = rw e (eq-eqb s 0 z)
-  true_path x y s row (inr p) =
-      rw p.first (and_from (eqb x x) _ (eq-eqb x x refl)
-      (and_from (leads w v x p.rest y) _ (true_leads x y p.rest p.leads) (eq-eqb (weakest w x p.rest) s p.weak)))
+  weakest_on : (x y z : ℕ) (zs : List ℕ) → Leads w (below v) x (z ∷ zs) y → (weakest_to w y x (z ∷ zs) ≡ weakest w x (z ∷ zs)) × (0 < weakest w x (z ∷ zs))
+  weakest_on x y z [] h = (grind (arith, nat_tests), h.1)
+  weakest_on x y z (a ∷ zs) h = let r = weakest_on z y a zs h.2 in (rw r.0, omega (arith, h.1, r.1))
 
-  -- the set parts the pair
-  pub cut_true : (x y s set : ℕ) → is_cut w v x y s set ≡ true → Cut w v x y s set
-  unfolding is_cut crosses
-  cut_true x y s set h =
-      let p = and_parts (ltb set (2 ^ v)) _ h in
-      let q = and_parts (holds set x) _ p.1 in
-      let r = and_parts (not (holds set y)) _ q.1 in
-      record {
-        has = q.0;
-        lacks = not-true (holds set y) r.0;
-        bounded = ltb-true set (2 ^ v) p.0;
-        across = λ a b la lb ha hb.
-            let k = every_at (λ b. not (crosses w s set a b)) v b (every_at (λ a. every (λ b. not (crosses w s set a b)) v) v a r.1 la) lb in
-            grind (arith, nat_tests);
-      }
+  module _ (x y s : ℕ) where
+    path_true : (row : List ℕ) → x < v → is_path w x y s row ≡ true → ((row ≡ []) × (s ≡ 0)) ⊎ Shows w (below v) x y s row
+    unfolding is_path
+    path_true [] xv h = inl (refl, eqb-true s 0 h)
+    path_true (z ∷ zs) xv h =
+        let p = and_parts (eqb z x) _ h in
+        let q = and_parts (eqb (weakest_to w y x zs) s) _ p.1 in
+        let k : weakest_to w y x zs ≡ s = eqb-true _ s q.0 in
+        let some : 0 < s = ltb-true 0 s q.1 in
+        let r = leads_on x y zs (omega arith) in
+        inr (record { rest = zs; first = ap (λ a. a ∷ zs) (eqb-true z x p.0); stands = in_below v x xv; leads = r.0; weak = omega (arith, r.1); some = some })
 
-  pub true_cut : (x y s set : ℕ) → Cut w v x y s set → is_cut w v x y s set ≡ true
-  unfolding is_cut crosses
-  true_cut x y s set c =
-      and_from (ltb set (2 ^ v)) _ (lt-ltb set (2 ^ v) c.bounded) (and_from (holds set x) _ c.has
-      (and_from (not (holds set y)) _ (not_from_false (holds set y) c.lacks)
-      (every_all (λ a. every (λ b. not (crosses w s set a b)) v) v (λ a la. every_all (λ b. not (crosses w s set a b)) v (λ b lb. calm a b la lb)))))
-    where
-      calm : (a b : ℕ) → a < v → b < v → not (holds set a && (not (holds set b) && ltb s (w a b))) ≡ true
-      calm a b la lb = elim (cases_Bool (holds set a)) [
-        | inl ha ↦ elim (cases_Bool (holds set b)) [
-          | inl hb ↦ rw (ha, hb)
-          | inr hb ↦ rw (ha, hb, le-ltb s (w a b) (c.across a b la lb ha hb))
+    shown_path : (zs : List ℕ) → x ≢ y → Leads w (below v) x zs y → weakest w x zs ≡ s → 0 < s → is_path w x y s (x ∷ zs) ≡ true
+    unfolding is_path
+    shown_path [] ne l k some = absurd (ne l)
+    shown_path (z ∷ zs) ne l k some =
+        and_from (eqb x x) _ (eq-eqb x x refl)
+        (and_from (eqb (weakest_to w y x (z ∷ zs)) s) _ (eq-eqb _ s ((weakest_on x y z zs l).0 ∙ k)) (lt-ltb 0 s some))
+
+    true_path : (row : List ℕ) → x ≢ y → ((row ≡ []) × (s ≡ 0)) ⊎ Shows w (below v) x y s row → is_path w x y s row ≡ true
+    unfolding is_path
+    true_path row ne (inl (e, z)) = rw e (eq-eqb s 0 z)
+    true_path row ne (inr p) = rw p.first (shown_path p.rest ne p.leads p.weak p.some)
+
+    -- the set parts the pair
+    cut_true : (set : ℕ) → is_cut w v x y s set ≡ true → Cut w v x y s set
+    unfolding is_cut
+    cut_true set h =
+        let p = and_parts (ltb set (2 ^ v)) _ h in
+        let q = and_parts (holds set x) _ p.1 in
+        let r = and_parts (not (holds set y)) _ q.1 in
+        let each = list_all_each _ (pairs v) r.1 in
+        record {
+          has = q.0;
+          lacks = not-true (holds set y) r.0;
+          bounded = ltb-true set (2 ^ v) p.0;
+          across = λ a b la lb ha hb.
+              let k = pairs_at (λ ab. not (crosses w s set ab.0 ab.1) ≡ true) v each a b la lb (λ e. false≢true (sym hb ∙ (ap (holds set) (sym e) ∙ ha))) in
+              grind (arith, nat_tests);
+        }
+
+    true_cut : (set : ℕ) → Cut w v x y s set → is_cut w v x y s set ≡ true
+    unfolding is_cut
+    true_cut set c =
+        and_from (ltb set (2 ^ v)) _ (lt-ltb set (2 ^ v) c.bounded) (and_from (holds set x) _ c.has
+        (and_from (not (holds set y)) _ (not_from_false (holds set y) c.lacks)
+        (each_list_all _ (pairs v) (pairs_each (λ ab. not (crosses w s set ab.0 ab.1) ≡ true) v (λ a b la lb ne. calm a b la lb)))))
+      where
+        calm : (a b : ℕ) → a < v → b < v → not (crosses w s set a b) ≡ true
+        calm a b la lb = elim (cases_Bool (holds set a)) [
+          | inl ha ↦ elim (cases_Bool (holds set b)) [
+            | inl hb ↦ rw (ha, hb)
+            | inr hb ↦ rw (ha, hb, le-ltb s (w a b) (c.across a b la lb ha hb))
+          ]
+          | inr ha ↦ rw ha
         ]
-        | inr ha ↦ rw ha
-      ]
+
+  -- an entry whose tests pass is as said, and one that is as said passes them
+  pub tests_support : (x y : ℕ) (e : Entry) → x < v → is_path w x y e.strength e.path ≡ true → is_cut w v x y e.strength e.cut ≡ true → Supports w v x y e
+  tests_support x y e xv p c = record { path = path_true x y e.strength e.path xv p; cut = cut_true x y e.strength e.cut c }
+
+  pub support_tests : (x y : ℕ) (e : Entry) → x ≢ y → Supports w v x y e →
+      (is_path w x y e.strength e.path ≡ true) × (is_cut w v x y e.strength e.cut ≡ true)
+  support_tests x y e ne p = (true_path x y e.strength e.path ne p.path, true_cut x y e.strength e.cut p.cut)
+
+-- an entry that is as said has the strength of the strongest path
+pub supports_strongest : (w : ℕ → ℕ → ℕ) (v x y : ℕ) (e : Entry) → Supports w v x y e → Strongest w v x y e.strength
+supports_strongest w v x y e p = path_and_cut w v x y e.strength e.cut e.path (some p.path) p.cut
+  where
+    some : ((e.path ≡ []) × (e.strength ≡ 0)) ⊎ Shows w (below v) x y e.strength e.path → 0 < e.strength → Shows w (below v) x y e.strength e.path
+    some (inl (none, z)) h = absurd (let f : ⊥ = omega arith in f)
+    some (inr shows) h = shows
+
+-- by counts that are 0 where there is no pair, nobody has a win against whoever is no candidate
+pub beyond : (v : ℕ) (f : ℕ → ℕ → ℕ) (a z : ℕ) → v ≤ z → win_by (within v f) a z ≡ 0
+beyond v f a z h = let e = le-ltb z v h in grind (arith, nat_tests)
+
+-- so what the checker reads for a pair is its strength
+pub tests_strength : (t : Pairwise) (x y s set : ℕ) (row : List ℕ) → IsPair t.counts.candidates x y →
+    is_path (win_in t) x y s row ≡ true → is_cut (win_in t) t.counts.candidates x y s set ≡ true →
+    s ≡ strength (win_in t) t.counts.candidates x y
+tests_strength t x y s set row two p c =
+    let e : Entry = record { strength = s; path = row; cut = set } in
+    let said = tests_support (win_in t) t.counts.candidates (beyond t.counts.candidates (cell t.counts.cells)) x y e two.first p c in
+    is_strength (win_in t) t.counts.candidates
+    (record { strongest = λ _. supports_strongest (win_in t) t.counts.candidates x y e said; none = λ apart. absurd (apart two) })

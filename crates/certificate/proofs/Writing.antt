@@ -1,75 +1,46 @@
 -- Bytes written one behind the other.
-use Rattle.std.proofs.Common.{◌≡◌, ℕ, ◌+◌, ◌<◌, ◌≤◌, ◌≢◌, List, [], ◌∷◌, ◌++◌, length, sym, refl, ap, ◌∙◌, subst, add-zero, append_assoc, arith, length-append}
-use Rattle.std.proofs.lemmas.List.{take-append-drop}
-use Rattle.std.proofs.lemmas.Bool.{eq-eqb, ne_eqb}
-use Rattle.paths.specs.Found.{put, Wrote}
-use Rattle.paths.proofs.Written.{wrote_both}
-use Rattle.certificate.specs.declared.writes.Writer.{Writer}
-use Rattle.certificate.specs.Layout.{two_bytes, four_bytes, Claims, entry_bytes, claim_bytes, all_pairs}
-use Rattle.certificate.specs.Progress.{HasRoom, Put}
-use Rattle.certificate.proofs.Pairs.{before, behind, before_next, before_row, all_before}
+use Rattle.std.proofs.Common.{◌≡◌, ℕ, ◌+◌, List, [], ◌++◌, length, refl, ◌∙◌, append_assoc, arith, length-append}
+use Rattle.std.proofs.lemmas.List.{append-nil}
+use Rattle.certificate.specs.declared.writer.Writer.{Writer}
+use Rattle.certificate.specs.Layout.{number_size, set_size, Entry, entry_bytes, set_bytes}
+use Rattle.certificate.specs.inner.Progress.{HasRoom, Writes}
 
--- nothing, and parts one behind the other
-pub put_none : (a : Writer) → Put [] a a
-unfolding put
-put_none a =
-    record { wrote = record { stop = omega arith; after = rw add-zero (sym (take-append-drop a.at a.sheet.now)) }; size = refl; same = refl }
+-- nothing, and some behind others
+pub writes_none : (a : Writer) → Writes [] a a
+writes_none a = record { place = omega arith; size = refl; same = refl; behind = λ front sheet h. rw append-nil h }
 
-pub put_as : {bytes bs : List ℕ} {a b : Writer} → bytes ≡ bs → Put bytes a b → Put bs a b
-put_as {a = a} {b = b} e w = subst (λ l. Put l a b) e w
+pub writes_both : {ps qs : List ℕ} {a b c : Writer} → Writes ps a b → Writes qs b c → Writes (ps ++ qs) a c
+writes_both {ps} {qs} p q =
+    record {
+      place = omega (arith, p.place, q.place, length-append ps qs);
+      size = q.size ∙ p.size;
+      same = q.same ∙ p.same;
+      behind = λ front sheet h. rw (← append_assoc) (q.behind (front ++ ps) sheet (p.behind front sheet h));
+    }
 
-pub put_both : {bytes ps qs : List ℕ} {a b c : Writer} → bytes ≡ ps ++ qs → HasRoom bytes a →
-    Put ps a b → Put qs b c → Put bytes a c
-put_both e room p q = record { wrote = wrote_both e room p.wrote q.wrote; size = q.size ∙ p.size; same = q.same ∙ p.same }
+-- the bytes are left to be written: there is room for them, and with them all of it is written
+pub record Left (bytes all : List ℕ) (start now : Writer) : Type 0 where
+  pub room : HasRoom bytes now
+  pub rest : (end : Writer) → Writes bytes now end → Writes all start end
 
--- what is left behind the reference that a writer held
-pub put_left : {bytes left : List ℕ} {a b : Writer} → Put bytes a b → (a.sheet.ghost_name ≡ b.sheet.ghost_name → left ≡ b.sheet.now) →
-    Wrote bytes a.at a.sheet.now left b.at
-put_left p e = record { stop = p.wrote.stop; after = e (sym p.same) ∙ p.wrote.after }
+pub left_all : {all : List ℕ} {a : Writer} → HasRoom all a → Left all all a a
+left_all room = record { room = room; rest = λ end w. w }
 
--- the parts of pairs behind a front, where there is room for all
-module _ (front : List ℕ) (v : ℕ) (f : ℕ → ℕ → List ℕ) (x y : ℕ) where
-  next : front ++ before v f x (y + 1) ≡ (front ++ before v f x y) ++ f x y
-  next = ap (λ l. front ++ l) (before_next v f x y) ∙ sym (append_assoc front (before v f x y) (f x y))
+pub left_none : {all : List ℕ} {a b : Writer} → Left [] all a b → Writes all a b
+left_none {b = b} l = l.rest b (writes_none b)
 
-  pair_room : (at n : ℕ) → x < v → y < v → at + length (front ++ all_pairs v f) ≤ n → at + length (front ++ before v f x (y + 1)) ≤ n
-  pair_room at n lx ly room =
-      omega (arith, length-append front (all_pairs v f), length-append front (before v f x (y + 1)), ap length (all_before v f x y lx ly), length-append (before v f x (y + 1)) (behind v f x y))
+-- of two parts there is room for the first, and once it is written the second is left
+pub first_fits : (ps qs : List ℕ) {all : List ℕ} {a b : Writer} → Left (ps ++ qs) all a b → HasRoom ps b
+first_fits ps qs l = omega (arith, l.room, length-append ps qs)
 
-  pub pair_fits : {a b : Writer} → x < v → y < v → HasRoom (front ++ all_pairs v f) a →
-      Put (front ++ before v f x y) a b → HasRoom (f x y) b
-  pair_fits {a} lx ly room p =
-      omega (arith, p.wrote.stop, p.size, pair_room a.at (length a.sheet.now) lx ly room, ap length next, length-append (front ++ before v f x y) (f x y))
+pub left_second : {ps qs all : List ℕ} {a b c : Writer} → Left (ps ++ qs) all a b → Writes ps b c → Left qs all a c
+left_second {ps} {qs} l w =
+    record {
+      room = omega (arith, l.room, length-append ps qs, w.place, w.size);
+      rest = λ end v. l.rest end (writes_both w v);
+    }
 
-  pub pair_put : {a b c : Writer} → x < v → y < v → HasRoom (front ++ all_pairs v f) a →
-      Put (front ++ before v f x y) a b → Put (f x y) b c → Put (front ++ before v f x (y + 1)) a c
-  pair_put {a} lx ly room p q = put_both next (pair_room a.at (length a.sheet.now) lx ly room) p q
-
-  pub row_put : {a b : Writer} → y ≡ v → Put (front ++ before v f x y) a b → Put (front ++ before v f (x + 1) 0) a b
-  row_put e p = put_as (ap (λ l. front ++ l) (before_row v f x y e)) p
-
--- an entry in four parts
-pub put_entry :
-    (s k c : ℕ) (path : List ℕ) {w₀ w₁ w₂ w₃ w₄ : Writer} → k ≡ length path → w₀.at + (7 + length path) ≤ length w₀.sheet.now →
-    Put (two_bytes s) w₀ w₁ → Put (k ∷ []) w₁ w₂ → Put path w₂ w₃ → Put (four_bytes c) w₃ w₄ →
-    Put (entry_bytes s path c) w₀ w₄
+-- how long an entry is
+pub entry_length : (e : Entry) → length (entry_bytes e) ≡ number_size + 1 + length e.path + set_size
 unfolding entry_bytes
-put_entry s k c path e room a b d f =
-    let l = length-append path (four_bytes c) in
-    rw (← e) (put_both refl (omega arith) (put_both refl (omega arith) (put_both refl (omega arith) a b) d) f)
-
-pub claim_other : (claims : Claims) (x y : ℕ) → x ≢ y → claim_bytes claims x y ≡ entry_bytes (claims.strength x y) (claims.path x y) (claims.cut x y)
-unfolding claim_bytes
-claim_other claims x y ne = rw (ne_eqb x y ne)
-
-pub claim_none : (claims : Claims) (x y : ℕ) → x ≡ y → claim_bytes claims x y ≡ []
-unfolding claim_bytes
-claim_none claims x y e = rw (eq-eqb x y e)
-
-entry_length : (s : ℕ) (path : List ℕ) (c : ℕ) → length (entry_bytes s path c) ≡ 7 + length path
-unfolding entry_bytes
-entry_length s path c = omega (arith, length-append path (four_bytes c))
-
-pub claim_length : (claims : Claims) (x y : ℕ) → x ≢ y → length (claim_bytes claims x y) ≡ 7 + length (claims.path x y)
-claim_length claims x y ne =
-    ap length (claim_other claims x y ne) ∙ entry_length (claims.strength x y) (claims.path x y) (claims.cut x y)
+entry_length e = omega (arith, length-append e.path (set_bytes e.cut))

@@ -1,90 +1,86 @@
--- The judge of a certificate: what is demanded of it, front to back, and the refusal where a demand is not met. Assumes nothing.
-use Rattle.std.specs.Prelude.{ℕ, ◌+◌, ◌^◌, Bool, cond, not, ◌&&◌, List, [], ◌∷◌, ◌++◌, length, Some, None, Option, ◌==◌, nat_le, nat_lt, slice_index}
+-- The judge of a certificate: the first refusal in it, front to back. Assumes nothing.
+use Rattle.std.specs.Prelude.{ℕ, ◌+◌, ◌^◌, min, Bool, not, ◌&&◌, if◌then◌else◌, List, [], ◌∷◌, length, Some, None, Option, ◌==◌, nat_le, nat_lt, slice_index}
+use Rattle.std.specs.List.{list_all}
+use Rattle.std.specs.Option.{option_or}
 use Rattle.ballots.specs.declared.refusal.Refusal.{Refusal}
-use Rattle.ballots.specs.declared.refusal.Refusal.TheVariants as refuse
-use Rattle.ballots.specs.Format.{unranked, candidates_in, ballots_of}
-use Rattle.ballots.specs.Lending.{or_else}
+use Rattle.ballots.specs.declared.refusal.Refusal.TheVariants.{Length, Table, Path, Cut, Best}
+use Rattle.ballots.specs.Format.{candidates_in}
 use Rattle.ballots.specs.Refusals.{refusal}
-use Rattle.ballots.specs.Sets.{holds, every}
-use Rattle.pairwise.specs.Counts.{count, win_by}
-use Rattle.paths.specs.Rows.{weakest}
-use Rattle.best.specs.Compared.{best_by}
-use Rattle.certificate.specs.Layout.{Claims, all_pairs, table_bytes}
-use Rattle.certificate.specs.Reading.{four_at, cut_place, place, best_place, claims_in}
+use Rattle.ballots.specs.Sets.{holds}
+use Rattle.pairwise.specs.Counts.{win_by}
+use Rattle.pairwise.specs.Pairs.{pairs}
+use Rattle.pairwise.specs.Pairwise.{counts_of}
+use Rattle.paths.specs.Middles.{strength}
+use Rattle.best.specs.Comparisons.{best_by}
+use Rattle.certificate.specs.Layout.{set_size, Entry, table_bytes, table_size}
+use Rattle.certificate.specs.Reading.{set_at, path_place, cut_place, entry_end, entry_at, entries_end}
 
--- a demand: whether it is met, and the refusal where it is not
-pub record Demand : Type 0 where
-  pub met : Bool
-  pub refusal : Refusal
+-- no refusal where the demand is met
+abbrev pub unless : Bool → Refusal → Option Refusal
+unless met e = if met then None else Some e
 
--- a demand by its test
-abbrev pub demand : Bool → Refusal → Demand
-demand met refusal = record { met = met; refusal = refusal }
+-- the certificate ends before the place p
+abbrev pub ends_before : List ℕ → ℕ → Option Refusal
+ends_before sheet p = unless (nat_le p (length sheet)) (Length (length sheet))
 
--- the refusal of the first one that is not met, if there is one
-abbrev pub unmet : List Demand → Option Refusal
-unmet [] = None
-unmet (d ∷ ds) = cond d.met (unmet ds) (Some d.refusal)
+-- why these bytes do not stand in the certificate from p on
+abbrev pub bytes_refusal : List ℕ → ℕ → List ℕ → Option Refusal
+bytes_refusal sheet p [] = None
+bytes_refusal sheet p (b ∷ bs) =
+    option_or (ends_before sheet (p + 1))
+    (option_or (unless (slice_index sheet p == b) (Table p)) (bytes_refusal sheet (p + 1) bs))
 
--- the certificate goes on to the place p at the least
-abbrev pub reaches : List ℕ → ℕ → Demand
-reaches sheet p = demand (nat_le p (length sheet)) (refuse.Length (length sheet))
+-- the weakest of the wins from x over the candidates of the row to y, its last; 0 where the row does not end in y
+abbrev pub weakest_to : (ℕ → ℕ → ℕ) → ℕ → ℕ → List ℕ → ℕ
+weakest_to w y x [] = 0
+weakest_to w y x (z ∷ []) = if z == y then w x z else 0
+weakest_to w y x (z ∷ (a ∷ zs)) = min (w x z) (weakest_to w y z (a ∷ zs))
 
--- these bytes stand in the certificate from p on
-abbrev pub stands : List ℕ → ℕ → List ℕ → List Demand
-stands sheet p [] = []
-stands sheet p (b ∷ bs) = reaches sheet (p + 1) ∷ (demand (slice_index sheet p == b) (refuse.Table p) ∷ stands sheet (p + 1) bs)
-
--- from x over the candidates of the row to y, its last: they are below v, and each wins against the next
-abbrev pub leads : (ℕ → ℕ → ℕ) → ℕ → ℕ → List ℕ → ℕ → Bool
-leads w v x [] y = x == y
-leads w v x (z ∷ zs) y = nat_lt z v && (nat_lt 0 (w x z) && leads w v z zs y)
-
--- the row is a path from x to y whose weakest win is s; a row of nobody stands for the strength 0
-unfoldable pub is_path : (ℕ → ℕ → ℕ) → ℕ → ℕ → ℕ → ℕ → List ℕ → Bool
-is_path w v x y s [] = s == 0
-is_path w v x y s (z ∷ zs) = z == x && (leads w v x zs y && weakest w x zs == s)
+-- the row is a path from x to y, of which the weakest win is s; a row of nobody stands for the strength 0
+unfoldable pub is_path : (ℕ → ℕ → ℕ) → ℕ → ℕ → ℕ → List ℕ → Bool
+is_path w x y s [] = s == 0
+is_path w x y s (z ∷ zs) = z == x && (weakest_to w y x zs == s && nat_lt 0 s)
 
 -- a is in the set, b is not, and a wins against b with more than s
-unfoldable pub crosses : (ℕ → ℕ → ℕ) → ℕ → ℕ → ℕ → ℕ → Bool
+abbrev pub crosses : (ℕ → ℕ → ℕ) → ℕ → ℕ → ℕ → ℕ → Bool
 crosses w s set a b = holds set a && (not (holds set b) && nat_lt s (w a b))
 
 -- the set has x and not y, nobody but candidates below v, and none of it wins against one outside with more than s
 unfoldable pub is_cut : (ℕ → ℕ → ℕ) → ℕ → ℕ → ℕ → ℕ → ℕ → Bool
 is_cut w v x y s set =
-    nat_lt set (2 ^ v) && (holds set x && (not (holds set y) && every (λ a. every (λ b. not (crosses w s set a b)) v) v))
+    nat_lt set (2 ^ v) && (holds set x && (not (holds set y)
+    && list_all (λ ab. not (crosses w s set ab.0 ab.1)) (pairs v)))
 
--- what is demanded of the entry of the pair x, y: its front, the path, and the cut
-unfoldable pub entry_demands : (ℕ → ℕ → ℕ) → ℕ → List ℕ → ℕ → ℕ → List Demand
-entry_demands w v sheet x y =
-    let p : ℕ = place v sheet x y in
-    let claims : Claims = claims_in v sheet in
-    reaches sheet (p + 3)
-    ∷ (reaches sheet (cut_place sheet p)
-    ∷ (demand (is_path w v x y (claims.strength x y) (claims.path x y)) (refuse.Path x y)
-    ∷ (reaches sheet (cut_place sheet p + 4)
-    ∷ (demand (is_cut w v x y (claims.strength x y) (claims.cut x y)) (refuse.Cut x y)
-    ∷ []))))
+-- why the entry of the pair x, y that starts at p is refused
+unfoldable pub entry_refusal : (ℕ → ℕ → ℕ) → ℕ → List ℕ → ℕ → ℕ → ℕ → Option Refusal
+entry_refusal w v sheet p x y =
+    let e : Entry = entry_at sheet p in
+    option_or (ends_before sheet (path_place p))
+    (option_or (ends_before sheet (cut_place sheet p))
+    (option_or (unless (is_path w x y e.strength e.path) (Path x y))
+    (option_or (ends_before sheet (entry_end sheet p))
+    (unless (is_cut w v x y e.strength e.cut) (Cut x y)))))
 
--- the same of each pair, where a candidate has no entry with itself
-unfoldable pub claim_demands : (ℕ → ℕ → ℕ) → ℕ → List ℕ → ℕ → ℕ → List Demand
-claim_demands w v sheet x y = cond (x == y) [] (entry_demands w v sheet x y)
+-- why the entries of the pairs from p on are
+abbrev pub entries_refusal : (ℕ → ℕ → ℕ) → ℕ → List ℕ → ℕ → List (ℕ × ℕ) → Option Refusal
+entries_refusal w v sheet p [] = None
+entries_refusal w v sheet p (xy ∷ pairs) =
+    option_or (entry_refusal w v sheet p xy.0 xy.1) (entries_refusal w v sheet (entry_end sheet p) pairs)
 
--- what is demanded at the end: the set of the best by the strengths that are claimed, and no byte behind it
-unfoldable pub best_demands : ℕ → List ℕ → List Demand
-best_demands v sheet =
-    let p : ℕ = best_place v sheet in
-    reaches sheet (p + 4)
-    ∷ (demand (four_at sheet p == best_by (claims_in v sheet).strength v) refuse.Best
-    ∷ (demand (nat_le (length sheet) (p + 4)) (refuse.Length (p + 4))
-    ∷ []))
+-- why the end of the certificate from p on is: it has this set of the best, and no byte behind it
+abbrev pub end_refusal : ℕ → List ℕ → ℕ → Option Refusal
+end_refusal best sheet p =
+    option_or (ends_before sheet (p + set_size))
+    (option_or (unless (set_at sheet p == best) Best)
+    (unless (nat_le (length sheet) (p + set_size)) (Length (p + set_size))))
 
--- all that is demanded of a certificate of v candidates with the counts n
-unfoldable pub demands : ℕ → (ℕ → ℕ → ℕ) → List ℕ → List Demand
-demands v n sheet =
-    stands sheet 0 (table_bytes v n) ++ (all_pairs v (claim_demands (win_by n) v sheet) ++ best_demands v sheet)
+-- why a certificate of v candidates with the counts n is refused
+unfoldable pub sheet_refusal : ℕ → (ℕ → ℕ → ℕ) → List ℕ → Option Refusal
+sheet_refusal v n sheet =
+    option_or (bytes_refusal sheet 0 (table_bytes v n))
+    (option_or (entries_refusal (win_by n) v sheet (table_size v) (pairs v))
+    (end_refusal (best_by (strength (win_by n) v) v) sheet (entries_end sheet (table_size v) (pairs v))))
 
 -- why the ballots are refused, or else why the certificate is, if one of them is
 abbrev pub judge : List ℕ → List ℕ → Option Refusal
-judge bytes sheet =
-    or_else (refusal bytes) (unmet (demands (candidates_in bytes) (count unranked (ballots_of bytes)) sheet))
+judge bytes sheet = option_or (refusal bytes) (sheet_refusal (candidates_in bytes) (counts_of bytes) sheet)

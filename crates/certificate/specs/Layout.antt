@@ -1,38 +1,47 @@
--- The layout of a certificate: the bytes of a table of counts, of what is claimed of each pair, and of a set. Assumes nothing.
-use Rattle.std.specs.Prelude.{ℕ, ◌/◌, ◌%◌, cond, List, [], ◌∷◌, ◌++◌, length, ◌==◌}
-use Rattle.std.specs.List.{range_with_len, flat_map}
+-- The layout of a certificate: what stands where in its bytes. Assumes nothing.
+use Rattle.std.specs.Prelude.{ℕ, ◌+◌, ◌*◌, List, ◌∷◌, ◌++◌, length}
+use Rattle.std.specs.Int.{Width, w16, w32, byte_len, to_le_bytes}
+use Rattle.std.specs.List.{flat_map}
+use Rattle.pairwise.specs.Grids.{rows}
 
--- a number in two bytes, low byte first
-abbrev pub two_bytes : ℕ → List ℕ
-two_bytes n = n % 256 ∷ (n / 256 % 256 ∷ [])
+-- how wide a number is, which is a count or a strength, and how wide a set of candidates, by its bits
+abbrev pub number_width : Width
+number_width = w16
 
--- a number in four bytes, low byte first; of a set of candidates these are its bits
-abbrev pub four_bytes : ℕ → List ℕ
-four_bytes n = n % 256 ∷ (n / 256 % 256 ∷ (n / 65536 % 256 ∷ (n / 16777216 % 256 ∷ [])))
+abbrev pub set_width : Width
+set_width = w32
 
--- what is claimed of each pair of candidates: the strength, a path that shows it, and a cut that bounds it
-pub record Claims : Type 0 where
-  pub strength : ℕ → ℕ → ℕ
-  pub path : ℕ → ℕ → List ℕ
-  pub cut : ℕ → ℕ → ℕ
+-- their bytes, the low byte first, and how many these are
+abbrev pub number_bytes : ℕ → List ℕ
+number_bytes = to_le_bytes number_width
 
--- a strength, how many candidates the path has, the candidates first to last, and the cut
-unfoldable pub entry_bytes : ℕ → List ℕ → ℕ → List ℕ
-entry_bytes s path cut = two_bytes s ++ (length path ∷ (path ++ four_bytes cut))
+abbrev pub set_bytes : ℕ → List ℕ
+set_bytes = to_le_bytes set_width
 
--- the entry of the pair x, y; a candidate has none with itself
-unfoldable pub claim_bytes : Claims → ℕ → ℕ → List ℕ
-claim_bytes claims x y =
-    cond (x == y) [] (entry_bytes (claims.strength x y) (claims.path x y) (claims.cut x y))
+abbrev pub number_size : ℕ
+number_size = byte_len number_width
 
--- what f has for the pairs of candidates below v, in order of the first, then of the second
-abbrev pub all_pairs : {A : Type 0} → ℕ → (ℕ → ℕ → List A) → List A
-all_pairs v f = flat_map (λ x. flat_map (f x) (range_with_len 0 v)) (range_with_len 0 v)
+abbrev pub set_size : ℕ
+set_size = byte_len set_width
 
--- the number of candidates and the table: n x y of each pair
-abbrev pub table_bytes : ℕ → (ℕ → ℕ → ℕ) → List ℕ
-table_bytes v n = v ∷ all_pairs v (λ x y. two_bytes (n x y))
+-- what is claimed of a pair of candidates: the strength, a path that shows it, and a cut that bounds it
+pub record Entry : Type 0 where
+  pub strength : ℕ
+  pub path : List ℕ
+  pub cut : ℕ
 
--- the certificate: the number of candidates, the table, the entries of the claims, and the set of the best
-unfoldable pub certificate_of : ℕ → (ℕ → ℕ → ℕ) → Claims → ℕ → List ℕ
-certificate_of v n claims best = table_bytes v n ++ (all_pairs v (claim_bytes claims) ++ four_bytes best)
+-- the strength, how many candidates the path has, the candidates first to last, and the cut
+unfoldable pub entry_bytes : Entry → List ℕ
+entry_bytes e = number_bytes e.strength ++ (length e.path ∷ (e.path ++ set_bytes e.cut))
+
+-- the number of candidates and the table: n x y of each pair, row by row
+unfoldable pub table_bytes : ℕ → (ℕ → ℕ → ℕ) → List ℕ
+table_bytes v n = v ∷ flat_map number_bytes (rows v n)
+
+-- how many bytes these are
+abbrev pub table_size : ℕ → ℕ
+table_size v = 1 + v * v * number_size
+
+-- the certificate: the number of candidates and the table, the entries of all pairs, and the set of the best
+unfoldable pub certificate_of : ℕ → (ℕ → ℕ → ℕ) → List Entry → ℕ → List ℕ
+certificate_of v n entries best = table_bytes v n ++ (flat_map entry_bytes entries ++ set_bytes best)

@@ -1,49 +1,47 @@
--- Reading a certificate: where the entry of each pair starts, and what it claims. Assumes nothing.
-use Rattle.std.specs.Prelude.{ℕ, zero, suc, ◌+◌, ◌*◌, cond, List, take, drop, ◌==◌, slice_index}
-use Rattle.certificate.specs.Layout.{Claims}
+-- Reading a certificate: the entries one behind the other, and what each claims. Assumes nothing.
+use Rattle.std.specs.Prelude.{ℕ, ◌+◌, List, [], ◌∷◌, take, drop, slice_index}
+use Rattle.std.specs.Int.{from_le_bytes}
+use Rattle.pairwise.specs.Pairs.{pairs}
+use Rattle.certificate.specs.Layout.{number_width, set_width, number_size, set_size, Entry, table_size}
 
--- the number in two bytes from p on
-abbrev pub two_at : List ℕ → ℕ → ℕ
-two_at bs p = slice_index bs p + slice_index bs (p + 1) * 256
+-- the number, and the set, whose bytes stand from p on
+unfoldable pub number_at : List ℕ → ℕ → ℕ
+number_at bs p = from_le_bytes number_width (take number_size (drop p bs))
 
--- the number in four bytes from p on
-abbrev pub four_at : List ℕ → ℕ → ℕ
-four_at bs p = slice_index bs p + slice_index bs (p + 1) * 256 + slice_index bs (p + 2) * 65536 + slice_index bs (p + 3) * 16777216
+unfoldable pub set_at : List ℕ → ℕ → ℕ
+set_at bs p = from_le_bytes set_width (take set_size (drop p bs))
 
--- how many candidates the path of an entry that starts at p has
-abbrev pub count_at : List ℕ → ℕ → ℕ
-count_at bs p = slice_index bs (p + 2)
+-- of an entry that starts at p: where its path starts, how many candidates that has, where the cut starts, where the entry ends
+abbrev pub path_place : ℕ → ℕ
+path_place p = p + number_size + 1
 
--- where the cut of an entry that starts at p stands
+abbrev pub path_length : List ℕ → ℕ → ℕ
+path_length bs p = slice_index bs (p + number_size)
+
 abbrev pub cut_place : List ℕ → ℕ → ℕ
-cut_place bs p = p + 3 + count_at bs p
+cut_place bs p = path_place p + path_length bs p
 
--- where the entry of the pair x, y ends that starts at p; a candidate has none with itself
-unfoldable pub behind : List ℕ → ℕ → ℕ → ℕ → ℕ
-behind bs x y p = cond (x == y) p (cut_place bs p + 4)
+abbrev pub entry_end : List ℕ → ℕ → ℕ
+entry_end bs p = cut_place bs p + set_size
 
--- where one comes to from p by a step for each number below n
-abbrev pub steps : (ℕ → ℕ → ℕ) → ℕ → ℕ → ℕ
-steps f zero p = p
-steps f (suc n) p = f n (steps f n p)
-
--- where the entries of v candidates start
-abbrev pub table_end : ℕ → ℕ
-table_end v = 1 + v * v * 2
-
--- where the entry of the pair x, y starts: behind those of the candidates before x, and of x with those before y
-unfoldable pub place : ℕ → List ℕ → ℕ → ℕ → ℕ
-place v bs x y = steps (behind bs x) y (steps (λ a p. steps (behind bs a) v p) x (table_end v))
-
--- where the set of the best stands, behind all entries
-abbrev pub best_place : ℕ → List ℕ → ℕ
-best_place v bs = place v bs v 0
-
--- what the bytes claim of each pair
-abbrev pub claims_in : ℕ → List ℕ → Claims
-claims_in v bs =
+-- the entry that starts at p
+abbrev pub entry_at : List ℕ → ℕ → Entry
+entry_at bs p =
     record {
-      strength = λ x y. two_at bs (place v bs x y);
-      path = λ x y. take (count_at bs (place v bs x y)) (drop (place v bs x y + 3) bs);
-      cut = λ x y. four_at bs (cut_place bs (place v bs x y));
+      strength = number_at bs p;
+      path = take (path_length bs p) (drop (path_place p) bs);
+      cut = set_at bs (cut_place bs p);
     }
+
+-- an entry for each of the pairs, one behind the other from p on, and where the last of them ends
+abbrev pub entries_from : List ℕ → ℕ → List (ℕ × ℕ) → List Entry
+entries_from bs p [] = []
+entries_from bs p (xy ∷ pairs) = entry_at bs p ∷ entries_from bs (entry_end bs p) pairs
+
+abbrev pub entries_end : List ℕ → ℕ → List (ℕ × ℕ) → ℕ
+entries_end bs p [] = p
+entries_end bs p (xy ∷ pairs) = entries_end bs (entry_end bs p) pairs
+
+-- the entries of a certificate of v candidates
+abbrev pub entries_in : ℕ → List ℕ → List Entry
+entries_in v bs = entries_from bs (table_size v) (pairs v)
