@@ -1,3 +1,3 @@
 pub mod Drawing
 pub mod Deciding
-pub mod Counting
+pub mod OutcomeParts

@@ -1,65 +1,45 @@
--- The draw: a row of ballot numbers, two bytes each, low byte first, and the tie-break order that it makes. Assumes nothing.
-use Rattle.std.specs.Prelude.{◌≡◌, ℕ, zero, suc, ◌+◌, ◌*◌, ◌/◌, ◌%◌, ◌<◌, ◌≤◌, Bool, false, cond, not, ◌&&◌, ◌||◌, List, [], ◌∷◌, map, length, Some, None, Ok, Err, Option, Result, ◌==◌, nat_le, nat_lt, slice_index}
-use Rattle.std.specs.List.{range_with_len}
-use Rattle.std.specs.Borrow.{Bor}
-use Rattle.ballots.specs.declared.file.BallotFile.{BallotFile}
+-- The draw: numbers of ballots, two bytes each, low byte first, and the order of candidates that it makes. Assumes nothing.
+use Rattle.std.specs.Prelude.{ℕ, ◌/◌, ◌%◌, Bool, not, ◌&&◌, ◌||◌, if◌then◌else◌, List, [], ◌∷◌, map, length, take, Some, Option, find, ◌==◌, nat_le, nat_lt, slice_index, slice_index_or}
+use Rattle.std.specs.Int.{w16, from_le_bytes}
+use Rattle.std.specs.List.{range_with_len, list_any}
+use Rattle.std.specs.Option.{option_map}
+use Rattle.std.specs.Simd.{first_chunks}
 use Rattle.ballots.specs.declared.refusal.Refusal.{Refusal}
 use Rattle.ballots.specs.declared.refusal.Refusal.TheVariants.{Length, Draw}
-use Rattle.ballots.specs.Format.{unranked, candidates_in, ballot_bytes, ranks_of}
-use Rattle.ballots.specs.Lending.{or_else}
-use Rattle.ballots.specs.Sets.{number}
-use Rattle.pairwise.specs.Counts.{over}
-use Rattle.best.specs.declared.orders.TieBreak.{TieBreak}
-use Rattle.tiebreak.specs.declared.draws.Draw as draws
-use Rattle.best.specs.Orders.{IsTieBreak}
-use Rattle.best.specs.Compared.{before_by}
+use Rattle.ballots.specs.Ballots.{over}
+use Rattle.ballots.specs.Format.{ballots_of}
+use Rattle.best.specs.TieBreak.{IsTieBreak}
 
--- how many ballots are drawn
-abbrev pub drawn_in : List ℕ → ℕ
-drawn_in draw = length draw / 2
+-- the numbers that are drawn, in the order of the draw
+abbrev pub numbers_in : List ℕ → List ℕ
+numbers_in draw = map (from_le_bytes w16) (first_chunks 2 (length draw / 2) draw)
 
--- the number of the ballot that is drawn at place i
-abbrev pub drawn_at : List ℕ → ℕ → ℕ
-drawn_at draw i = slice_index draw (2 * i) + 256 * slice_index draw (2 * i + 1)
+-- the number at place i is that of none of n ballots, or stands before already
+abbrev pub is_bad : ℕ → List ℕ → ℕ → Bool
+is_bad n ks i = nat_le n (slice_index ks i) || list_any (λ k. k == slice_index ks i) (take i ks)
 
--- the ballot k is among the first i that are drawn
-abbrev pub drawn_before : List ℕ → ℕ → ℕ → Bool
-drawn_before draw k zero = false
-drawn_before draw k (suc i) = drawn_at draw i == k || drawn_before draw k i
+-- the first place at which there is a bad number
+abbrev pub first_bad : ℕ → List ℕ → Option ℕ
+first_bad n ks = find (is_bad n ks) (range_with_len 0 (length ks))
 
--- the ballot at place i is none of n ballots, or was drawn before
-abbrev pub misdrawn : ℕ → List ℕ → ℕ → Bool
-misdrawn n draw i = nat_le n (drawn_at draw i) || drawn_before draw (drawn_at draw i) i
-
--- the first of k places at which a ballot is misdrawn, as a refusal
-abbrev pub first_misdrawn : ℕ → List ℕ → ℕ → Option Refusal
-first_misdrawn n draw zero = None
-first_misdrawn n draw (suc k) = or_else (first_misdrawn n draw k) (cond (misdrawn n draw k) (Some (Draw k)) None)
-
--- why a draw from n ballots is refused, if it is: half a number, then a ballot that does not exist or was drawn before
+-- why a draw from n ballots is refused, if it is: half a number, then the first number that is bad
 abbrev pub draw_refusal : ℕ → List ℕ → Option Refusal
-draw_refusal n draw = cond (length draw % 2 == 1) (Some (Length (length draw))) (first_misdrawn n draw (drawn_in draw))
+draw_refusal n draw =
+    if length draw % 2 == 1 then Some (Length (length draw)) else option_map Draw (first_bad n (numbers_in draw))
+
+-- the ballots of these numbers
+abbrev pub ballots_at : List ℕ → List ℕ → List (List ℕ)
+ballots_at bs ks = map (λ k. slice_index_or (ballots_of bs) k []) ks
 
 -- the ballots that are drawn, in the order of the draw
 abbrev pub drawn_ballots : List ℕ → List ℕ → List (List ℕ)
-drawn_ballots bs draw = map (λ i. ranks_of (ballot_bytes (candidates_in bs) bs (drawn_at draw i))) (range_with_len 0 (drawn_in draw))
+drawn_ballots bs draw = ballots_at bs (numbers_in draw)
 
--- the first of the ballots that does not put x and y equal puts x over y, or none does and x has the smaller number
-abbrev pub decided : ℕ → List (List ℕ) → ℕ → ℕ → Bool
-decided last [] x y = nat_lt x y
-decided last (p ∷ ps) x y = over last p x y || (not (over last p y x) && decided last ps x y)
+-- by the ballots, x is before y: the first that does not put them equal puts x over y, or none does and x has the smaller number
+abbrev pub before_by_ballots : ℕ → List (List ℕ) → ℕ → ℕ → Bool
+before_by_ballots last [] x y = nat_lt x y
+before_by_ballots last (p ∷ ps) x y = over last p x y || (not (over last p y x) && before_by_ballots last ps x y)
 
--- r is the draw of these bytes from the ballots of the file, or why it is refused
-abbrev pub DrawnFrom : BallotFile → Bor (List ℕ) → Result draws.Draw Refusal → Type 0
-DrawnFrom file bytes (Ok d) = (draw_refusal file.ballots bytes.now ≡ None) × (d.file ≡ file) × (d.bytes ≡ bytes)
-DrawnFrom file bytes (Err e) = draw_refusal file.ballots bytes.now ≡ Some e
-
--- the tie-break order is the one that the draw makes
-pub record TieBreakOf (bs draw : List ℕ) (t : TieBreak) : Type 0 where
-  pub keys : (x : ℕ) → x < candidates_in bs → slice_index t.keys x ≡ number (λ y. decided unranked (drawn_ballots bs draw) y x) (candidates_in bs)
-  pub behind : (x : ℕ) → candidates_in bs ≤ x → slice_index t.keys x ≡ 0
-  pub order : (x y : ℕ) → x < candidates_in bs → y < candidates_in bs → before_by t.keys x y ≡ decided unranked (drawn_ballots bs draw) x y
-
--- of two candidates one is before the other by any draw, and never both
-abbrev pub DecidedIsATieBreak : Type 0
-DecidedIsATieBreak = (last : ℕ) (ps : List (List ℕ)) → IsTieBreak (decided last ps)
+-- by any ballots, of two candidates one is before the other, and never both
+abbrev pub BallotsMakeATieBreak : Type 0
+BallotsMakeATieBreak = (last : ℕ) (ps : List (List ℕ)) → IsTieBreak (before_by_ballots last ps)

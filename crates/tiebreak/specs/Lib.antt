@@ -1,3 +1,4 @@
 pub mod Draws
 pub mod Outcomes
 pub mod Reports
+pub mod inner

@@ -1,12 +1,12 @@
 // The draw that decides between equals, and the whole count.
 #![tactic(auto)]
 
-mod counts;
-mod draws;
+mod counting;
+mod draw;
 pub mod laws;
 mod outcome;
 mod reports;
 
-pub use counts::count;
+pub use counting::count;
 pub use outcome::Outcome;
 pub use reports::report;

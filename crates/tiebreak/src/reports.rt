@@ -1,10 +1,9 @@
 // The text of an outcome.
 ghost use Rattle.std.specs.Prelude.{◌≡◌, ◌<◌, length, IfOk, Some, string_bytes};
 ghost use Rattle.std.specs.Fmt.{WritesOnOk};
-ghost use Rattle.tiebreak.specs.Reports.{number_at, best_line, ahead_lines, order_line, report_of};
+ghost use Rattle.tiebreak.specs.Reports.{strength_at, best_line, ahead_lines, order_line, report_of};
 
 use crate::Outcome;
-use ballots::holds;
 use std::alloc::{AllocError, Global};
 use std::fmt;
 
@@ -15,12 +14,12 @@ struct Reported<'a> {
     strengths: &'a [u16],
 }
 
-#[tactic(auto, using(std::proofs::lemmas::Grind::common_steps, ballots::proofs::Products::rows_more))]
+#[tactic(auto, using(std::proofs::lemmas::Grind::common_steps, ballots::proofs::Rows::rows_more))]
 impl Reported<'_> {
     // The strength from x to y; 0 where the slice ends before it.
     fn strength(&self, x: usize, y: usize) -> u16
         requires { let v = length self.now.outcome.now.order.places.items in (x < v) × (y < v) }
-        ensures { result ≡ number_at (length self.now.outcome.now.order.places.items) self.now.strengths.now x y }
+        ensures { result ≡ strength_at (length self.now.outcome.now.order.places.items) self.now.strengths.now x y }
     {
         let at = x * self.outcome.order.places.len() + y;
         self.strengths.get(at).copied().unwrap_or(0)
@@ -32,7 +31,7 @@ impl Reported<'_> {
     {
         write!(f, "papers {} best", self.outcome.ballots)?;
         for x in 0..self.outcome.order.places.len() {
-            if holds(self.outcome.best, x) {
+            if self.outcome.best.contains(x) {
                 write!(f, " {x}")?;
             }
         }
@@ -42,7 +41,7 @@ impl Reported<'_> {
     // Writes a line for each pair whose first candidate is ahead of the second. Plain `for`s here and above: each write may
     // fail.
     fn write_ahead<W: fmt::Write>(&self, f: &mut fmt::Formatter<W>) -> fmt::Result
-        ensures { let v = length self.now.outcome.now.order.places.items in WritesOnOk W.write_str_gives f.old result (ahead_lines (number_at v self.now.strengths.now) v) f.new }
+        ensures { let v = length self.now.outcome.now.order.places.items in WritesOnOk W.write_str_gives f.old result (ahead_lines (strength_at v self.now.strengths.now) v) f.new }
     {
         let candidates = self.outcome.order.places.len();
         for x in 0..candidates {

@@ -1,28 +1,25 @@
-// The draw: reading it, and the tie-break order that it makes.
-ghost use Rattle.std.specs.Prelude.{◌≡◌, ◌==◌, nat_lt, cond};
+// The draw that decides between equals.
+ghost use Rattle.std.specs.Prelude.{◌≡◌, ◌==◌, ◌<◌, if◌then◌else◌, All, nat_lt};
 ghost use Rattle.std.specs.List.{list_any};
 ghost use Rattle.std.specs.Int.{w16, from_le_bytes};
-ghost use Rattle.ballots.specs.Format.{unranked};
-ghost use Rattle.ballots.specs.Sets.{number};
-ghost use Rattle.tiebreak.specs.Draws.{drawn_ballots, decided, DrawnFrom, TieBreakOf};
 
 use ballots::{BallotFile, Refusal};
 use best::TieBreak;
-use pairwise::over;
 use std::array;
 
 // How many bytes a drawn number takes, the low byte first.
 const NUMBER_LENGTH: usize = 2;
 
-// Ballots of a file, as they are drawn.
+// Ballots of a file, by their numbers, in the order in which they are drawn.
 #[derive(Clone, Copy)]
 pub(crate) struct Draw<'a> {
     file: BallotFile<'a>,
-    bytes: &'a [u8],
+    numbers: &'a [[u8; NUMBER_LENGTH]],
+    ghost exist: { All (λ number. from_le_bytes w16 number < file.ballots) numbers.now },
 }
 
 // Whether one of the numbers is that of the ballot.
-fn drawn(numbers: &[[u8; NUMBER_LENGTH]], ballot: u16) -> bool
+fn is_among(numbers: &[[u8; NUMBER_LENGTH]], ballot: u16) -> bool
     ensures { result ≡ list_any (λ number. from_le_bytes w16 number == ballot) numbers.now }
 {
     numbers
@@ -31,9 +28,12 @@ fn drawn(numbers: &[[u8; NUMBER_LENGTH]], ballot: u16) -> bool
 }
 
 impl<'a> Draw<'a> {
+    ghost use Rattle.ballots.specs.Sets.{number};
+    ghost use Rattle.tiebreak.specs.inner.Drawing.{DrawnFrom, before_of, TieBreakOf};
+
     // The draw from the ballots of a file, or why it is refused.
     pub(crate) fn read(file: BallotFile<'a>, bytes: &'a [u8]) -> Result<Draw<'a>, Refusal>
-        ensures { DrawnFrom file.entry bytes.entry result }
+        ensures { DrawnFrom file.entry bytes.now result }
     {
         let (numbers, rest) = bytes.as_chunks::<NUMBER_LENGTH>();
         if !rest.is_empty() {
@@ -41,28 +41,23 @@ impl<'a> Draw<'a> {
         }
         for (place, number) in numbers.iter().enumerate() {
             let ballot = u16::from_le_bytes(*number);
-            if ballot >= file.ballots || drawn(&numbers[..place], ballot) {
+            if ballot >= file.ballots || is_among(&numbers[..place], ballot) {
                 return Err(Refusal::Draw { place });
             }
         }
-        Ok(Draw { file, bytes })
+        Ok(Draw { file, numbers })
     }
 
     // Whether x is before y: by the first drawn ballot that does not put them equal, and by number where none does.
-    #[tactic(auto, using(crate::proofs::Deciding::drawn_steps))]
-    fn decides(&self, x: usize, y: usize) -> bool
-        ensures { result ≡ decided unranked (drawn_ballots self.now.file.bytes.now self.now.bytes.now) x y }
+    fn puts_before(&self, x: usize, y: usize) -> bool
+        ensures { result ≡ before_of self.now x y }
     {
-        let (numbers, _) = self.bytes.as_chunks::<NUMBER_LENGTH>();
-        for number in numbers {
+        for number in self.numbers {
             let number = usize::from(u16::from_le_bytes(*number));
-            if let Some(ballot) = self.file.get(number) {
-                if over(ballot, x, y) {
-                    return true;
-                }
-                if over(ballot, y, x) {
-                    return false;
-                }
+            let ballot = self.file.get(number).unwrap();
+            let is_over = ballot.over(x, y);
+            if is_over || ballot.over(y, x) {
+                return is_over;
             }
         }
         x < y
@@ -70,18 +65,19 @@ impl<'a> Draw<'a> {
 
     // How many candidates are before x; 0 where x is no candidate.
     fn key(&self, x: usize) -> u8
-        ensures { result ≡ cond (nat_lt x self.now.file.candidates) (number (λ y. decided unranked (drawn_ballots self.now.file.bytes.now self.now.bytes.now) y x) self.now.file.candidates) 0 }
+        ensures { let v = self.now.file.candidates in
+            result ≡ if nat_lt x v then number (λ y. before_of self.now y x) v else 0 }
     {
         let candidates = self.file.candidates;
         if x >= candidates {
             return 0;
         }
-        (0..candidates).filter(|y| self.decides(*y, x)).count() as u8
+        (0..candidates).filter(|y| self.puts_before(*y, x)).count() as u8
     }
 
     // The tie-break order that the draw makes.
     pub(crate) fn tie_break(&self) -> TieBreak
-        ensures { TieBreakOf self.now.file.bytes.now self.now.bytes.now result }
+        ensures { TieBreakOf self.now result }
     {
         TieBreak {
             keys: array::from_fn(|x| self.key(x)),

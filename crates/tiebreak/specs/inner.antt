@@ -1,0 +1,2 @@
+-- What only private functions say. Assumes nothing.
+pub mod Drawing
