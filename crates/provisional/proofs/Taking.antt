@@ -1,79 +1,126 @@
 -- The ballots that a provisional count has taken.
-use Rattle.std.proofs.Common.{◌≡◌, ℕ, ◌+◌, ◌*◌, ◌/◌, ◌%◌, ◌<◌, cond, ◌&&◌, ltb, List, [], ◌∷◌, ◌++◌, map, length, None, Option, Result, sym, ap, ◌∙◌, subst, arith, length-append}
+use Rattle.std.proofs.Common.{◌≡◌, ℕ, ◌<◌, ◌≤◌, List, [], ◌∷◌, map, length, None, Ok, Err, Result, sym, ap, ◌∙◌, subst, arith, length-append}
 use Rattle.std.specs.List.Sorted.{IsPermutation}
+use Rattle.std.specs.Prelude.{OnOk}
 use Rattle.std.proofs.ByRecursion.{All-push, all_shuffled}
-use Rattle.std.proofs.lemmas.List.{map_push}
-use Rattle.std.proofs.lemmas.List.Sorted.{length_permutation}
+use Rattle.std.proofs.lemmas.List.{map_push, length-map}
+use Rattle.std.proofs.lemmas.List.FromFn.{length-map-range_with_len}
 use Rattle.std.proofs.lemmas.Bool.Decides.{nat_tests}
+use Rattle.std.proofs.lemmas.List.Sorted.{length_permutation, IsPermutation-map}
 use Rattle.ballots.specs.declared.refusal.Refusal.{Refusal}
-use Rattle.ballots.specs.Format.{unranked, ranks_of, file_of}
+use Rattle.ballots.specs.Format.{most_candidates, most_ballots, candidates_in, ballots_in, ballot_bytes, ballots_of, file_of}
+use Rattle.ballots.specs.Refusals.{refusal}
+use Rattle.ballots.specs.Ballots.{ranks_of, unranked}
+use Rattle.ballots.specs.Loans.{result_of}
 use Rattle.ballots.specs.Laws.{Vote}
-use Rattle.ballots.proofs.Files.{votes_accepted}
-use Rattle.ballots.proofs.Lending.{answered_ok}
-use Rattle.pairwise.specs.declared.Pairwise.{Pairwise}
-use Rattle.pairwise.specs.Additions.{most_ballots, add_refusal, OneMore, After, Added}
-use Rattle.pairwise.specs.Grids.{cell}
-use Rattle.pairwise.specs.Tables.{win_in, PairwiseOf}
-use Rattle.pairwise.proofs.Order.{count_shuffled}
-use Rattle.pairwise.proofs.Preferences.{counted_push}
-use Rattle.best.specs.Compared.{BestSet}
-use Rattle.best.proofs.Tabled.{best_tabled}
+use Rattle.ballots.proofs.Loans.{result_of-ok}
+use Rattle.ballots.proofs.Votes.{votes_accepted}
+use Rattle.pairwise.specs.declared.grid.Grid.{Grid}
+use Rattle.pairwise.specs.Counts.{count, win_by}
+use Rattle.pairwise.specs.Pairwise.{counts_of, add_refusal, Empty, OneMore, PairwiseOf}
+use Rattle.pairwise.specs.Grids.{cell, within}
+use Rattle.pairwise.proofs.Cells.{number_for-within, zero_outside}
+use Rattle.pairwise.proofs.Order.{count_order_free}
+use Rattle.pairwise.proofs.Preferences.{counted_none, counted_push}
+use Rattle.best.specs.Answers.{BestOf}
+use Rattle.best.specs.Comparisons.{BestSet}
+use Rattle.best.proofs.FileWins.{best_of_wins}
+use Rattle.best.proofs.Striking.{one_answer}
 use Rattle.provisional.specs.declared.Provisional.{Provisional}
-use Rattle.provisional.specs.Running.{Taken, Took, BestOfTaken}
+use Rattle.provisional.specs.Running.{ballots_taken, Taken, TakesBallot, BestOfCounts, BestOfTaken, AsCounted}
+
+-- no ballot is taken yet
+pub none_taken : (v : ℕ) (c : Provisional) → Empty v c.pairwise → Taken v [] c
+none_taken v c e = record {
+  vote = record {
+    some = omega (arith, e.candidates, c.pairwise.counts.some);
+    few = omega (arith, e.candidates, c.pairwise.counts.few);
+    counted = omega arith;
+    each = tt;
+  };
+  ballots = e.ballots;
+  candidates = e.candidates;
+  counts = λ x y hx hy. e.counts x y hx hy ∙ sym (counted_none v x y);
+}
 
 -- one ballot more
-taken_more : (c d : Provisional) (v : ℕ) (ps : List (List ℕ)) (p : List ℕ) → c.pairwise.ballots < most_ballots → length p ≡ c.pairwise.counts.candidates →
-    OneMore c.pairwise p d.pairwise → Taken v ps c → Taken v (ps ++ p ∷ []) d
-taken_more c d v ps p room wide more t =
-    let long : length (ps ++ p ∷ []) ≡ length ps + 1 = length-append ps (p ∷ []) in
+takes : (c d : Provisional) (p : List ℕ) → add_refusal c.pairwise p ≡ None → OneMore c.pairwise p d.pairwise → TakesBallot c p d
+takes c d p accepted more =
+    let room : c.pairwise.ballots < most_ballots = grind (arith, nat_tests) in
     record {
-      vote = record {
-        some = t.vote.some;
-        few = t.vote.few;
-        counted = omega (arith, t.ballots);
-        each = All-push (λ q. length q ≡ v) ps p t.vote.each (wide ∙ t.candidates);
+      more = more;
+      taken = λ v ps t. record {
+        vote = record {
+          some = t.vote.some;
+          few = t.vote.few;
+          counted = omega (arith, room, t.ballots, length-append ps (p ∷ []));
+          each = All-push (λ q. length q ≡ v) ps p t.vote.each (more.long ∙ t.candidates);
+        };
+        ballots = omega (arith, more.ballots, t.ballots, length-append ps (p ∷ []));
+        candidates = more.candidates ∙ t.candidates;
+        counts = rw (map_push ranks_of ps p)
+            (counted_push v (map ranks_of ps) p (cell c.pairwise.counts.cells) (cell d.pairwise.counts.cells) (more.long ∙ t.candidates) t.counts more.counts);
       };
-      ballots = omega (arith, more.ballots, t.ballots);
-      candidates = more.candidates ∙ t.candidates;
-      counts = rw (map_push ranks_of ps p) (counted_push v (map ranks_of ps) p (cell c.pairwise.counts.cells) (cell d.pairwise.counts.cells) (wide ∙ t.candidates) t.counts more.counts);
     }
 
--- a ballot that is not refused has a byte for each candidate, and there is room for it
-not_refused : (t : Pairwise) (p : List ℕ) → add_refusal t p ≡ None → (t.ballots < most_ballots) × (length p ≡ t.counts.candidates)
-not_refused t p h = (grind (arith, nat_tests), grind (arith, nat_tests))
-
-pub took : (c d : Provisional) (p : List ℕ) (r : Result (Unit {0}) Refusal) → Added c.pairwise p d.pairwise r → Took c p d r
-took c d p r a =
-    record {
-      added = a;
-      taken = λ ok v ps t.
-          let (none, _) = answered_ok (add_refusal c.pairwise p) tt tt (sym a.answer ∙ ok) in
-          let (room, wide) = not_refused c.pairwise p none in
-          taken_more c d v ps p room wide (subst (λ (o : Option Refusal). After o c.pairwise p d.pairwise) none a.after) t;
-    }
+-- where it is not refused
+pub takes_ok : (c d : Provisional) (p : List ℕ) (r : Result (Unit {0}) Refusal) → r ≡ result_of (add_refusal c.pairwise p) tt →
+    OnOk r (OneMore c.pairwise p d.pairwise) → OnOk r (TakesBallot c p d)
+takes_ok c d p (Err e) answer more = tt
+takes_ok c d p (Ok u) answer more = takes c d p (result_of-ok (add_refusal c.pairwise p) tt u (sym answer)).0 more
 
 -- a vote in another order is a vote
 vote_shuffled : (v : ℕ) (ps qs : List (List ℕ)) → IsPermutation ps qs → Vote v ps → Vote v qs
-vote_shuffled v ps qs h t =
-    record {
-      some = t.some;
-      few = t.few;
-      counted = omega (arith, length_permutation ps qs h, t.counted);
-      each = all_shuffled (λ q. length q ≡ v) ps qs h t.each;
-    }
+vote_shuffled v ps qs h t = record {
+  some = t.some;
+  few = t.few;
+  counted = omega (arith, length_permutation ps qs h, t.counted);
+  each = all_shuffled (λ q. length q ≡ v) ps qs h t.each;
+}
 
--- the table is that of a file with the ballots that were taken, in whatever order
-pairwise_taken : (c : Provisional) (v : ℕ) (ps qs : List (List ℕ)) → Taken v ps c → IsPermutation ps qs → PairwiseOf (file_of v qs) c.pairwise
-pairwise_taken c v ps qs t h =
-    let (accepted, same) = votes_accepted v qs (vote_shuffled v ps qs h t.vote) in
-    let n : length qs % 256 + 256 * (length qs / 256) ≡ length qs = omega arith in
-    record {
-      accepted = accepted;
-      ballots = omega (arith, t.ballots, length_permutation ps qs h);
-      candidates = t.candidates;
-      counts = λ x y hx hy. t.counts x y hx hy ∙ rw same (ap (λ k. cond (ltb x v && ltb y v) k 0) (sym (count_shuffled unranked ranks_of ps qs x y h)));
-    }
+module _ (c : Provisional) (v : ℕ) (ps qs : List (List ℕ)) (t : Taken v ps c) (h : IsPermutation ps qs) where
+  abbrev bs : List ℕ
+  bs = file_of v qs
 
--- so the best are those of the count of that file
-pub best_taken : (c : Provisional) (s : ℕ) → BestSet (win_in c.pairwise) c.pairwise.counts.candidates s → BestOfTaken c s
-best_taken c s b v ps qs t h = best_tabled (file_of v qs) c.pairwise (pairwise_taken c v ps qs t h) s b
+  is_file : (refusal bs ≡ None) × (ballots_of bs ≡ map ranks_of qs)
+  is_file = votes_accepted v qs (vote_shuffled v ps qs h t.vote)
+
+  -- the file has as many ballots as were taken
+  pub as_many : ballots_taken c ≡ ballots_in bs
+  as_many =
+      let ballots : length (ballots_of bs) ≡ ballots_in bs =
+      length-map-range_with_len (λ i. ranks_of (ballot_bytes (candidates_in bs) bs i)) 0 (ballots_in bs) in
+      omega (arith, t.ballots, length_permutation ps qs h, length-map qs ranks_of, ap length is_file.1, ballots)
+
+  -- and the counts are those of the file
+  pairwise_taken : PairwiseOf bs c.pairwise
+  pairwise_taken =
+      let g : Grid = c.pairwise.counts in
+      let few : v ≤ most_candidates = t.vote.few in
+      let free : (x y : ℕ) → count unranked (map ranks_of ps) x y ≡ count unranked (ballots_of bs) x y =
+      λ x y. sym (count_order_free unranked (map ranks_of ps) (map ranks_of qs) x y (IsPermutation-map ranks_of ps qs h))
+      ∙ ap (λ bs. count unranked bs x y) (sym is_file.1) in
+      record {
+        accepted = is_file.0;
+        ballots = as_many;
+        candidates = t.candidates;
+        counts = ap (λ n. within n (cell g.cells)) t.candidates
+            ∙ number_for-within v g.cells (count unranked (map ranks_of ps)) few t.counts ∙ (λ i. within v (λ x y. free x y i));
+        outside = subst (λ n. (x y : ℕ) → x < most_candidates → y < most_candidates → cell g.cells x y ≡ within n (cell g.cells) x y) (sym t.candidates)
+            (zero_outside v g.cells (count unranked (map ranks_of ps)) few t.counts);
+      }
+
+  -- so are the best
+  pub best_taken : (s : ℕ) → BestOfCounts c s → BestOf bs s
+  best_taken s b =
+      let of : PairwiseOf bs c.pairwise = pairwise_taken in
+      best_of_wins bs of.accepted
+      (subst (λ (n : ℕ). BestSet (win_by (counts_of bs)) n s) of.candidates
+      (subst (λ (n : ℕ → ℕ → ℕ). BestSet (win_by n) c.pairwise.counts.candidates s) of.counts b))
+
+-- and what the whole count comes to
+pub as_counted : (c : Provisional) (s : ℕ) → BestOfTaken c s → AsCounted c s
+as_counted c s b v ps qs t h draw refused (Err e) _ = tt
+as_counted c s b v ps qs t h draw refused (Ok o) (none, is) =
+    let same = one_answer (file_of v qs) (Ok o.best) (Ok s) is.best (b v ps qs t h) in
+    (cc, is.ballots ∙ sym (as_many c v ps qs t h))
