@@ -1,0 +1,10 @@
+pub mod Files
+pub mod Tables
+pub mod Strengths
+pub mod Sets
+pub mod Draws
+pub mod Ties
+pub mod Counts
+pub mod Orders
+pub mod Rows
+pub mod Cuts
