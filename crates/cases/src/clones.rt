@@ -1,16 +1,17 @@
 // A file with two clones, 0 and 3, counted as it is and with some candidates struck.
+use crate::votes::CLONES;
+use ballots::{Bits, CandidateSet};
 use best::best_of_both;
 
-// 2 × (1 3 4 2), 2 × (2 3 4 1), 3 × (3 1 2 4), 2 × (2 4 1 3)
-const CLONES: [u8; 39] = [
-    4, 9, 0, 1, 3, 4, 2, 1, 3, 4, 2, 2, 3, 4, 1, 2, 3, 4, 1, 3, 1, 2, 4, 3, 1, 2, 4, 3, 1, 2, 4, 2,
-    4, 1, 3, 2, 4, 1, 3,
-];
-
-fn print_both(rt: &HostRuntime, name: &str, keep: u32, room: usize) -> anyhow::Result<()> {
+fn print_both(rt: &HostRuntime, name: &str, keep: Bits, room: usize) -> anyhow::Result<()> {
+    let file = CLONES.file(rt.alloc())?;
     let mut struck = vec![in rt.alloc(); 0u8; room]?;
-    match best_of_both(&CLONES, keep, &mut struck) {
-        Ok(both) => println!(rt; "{name}: best {:b}, then {:b}", both.all, both.kept)?,
+    match best_of_both(&file, CandidateSet::from_bits(keep), &mut struck) {
+        Ok(both) => println!(rt;
+            "{name}: best {:b}, then {:b}",
+            both.all.bits(),
+            both.kept.bits()
+        )?,
         Err(refusal) => println!(rt; "{name}: {refusal}")?,
     }
     Ok(())

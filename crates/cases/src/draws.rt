@@ -1,24 +1,20 @@
 // Draws that decide between equals, and draws that are refused.
-use crate::CIRCLE;
+use crate::votes::{CIRCLE, EVEN, Vote};
 use certificate::LONGEST;
 use pairwise::CELLS;
 use tiebreak::{count, report};
 
-// Two candidates: a ballot that puts them equal, one for each of them.
-const EVEN: [u8; 9] = [2, 3, 0, 1, 1, 1, 2, 2, 1];
-
-// A count by its name, its file and its draw.
-const DRAWS: [(&str, &[u8], &[u8]); 10] = [
-    ("no draw, by number", &EVEN, &[]),
-    ("a draw for 0", &EVEN, &[1, 0]),
-    ("a draw for 1", &EVEN, &[2, 0]),
-    ("a draw that decides nothing", &EVEN, &[0, 0]),
-    ("the first that decides", &EVEN, &[0, 0, 2, 0, 1, 0]),
-    ("a draw against who is ahead", &CIRCLE, &[7, 0]),
-    ("a ballot that does not exist", &EVEN, &[0, 0, 3, 0]),
-    ("a ballot drawn twice", &EVEN, &[1, 0, 2, 0, 1, 0]),
-    ("half a number", &EVEN, &[1, 0, 9]),
-    ("bad ballots before a bad draw", &[2, 3, 0], &[1]),
+// A count by its name, its vote and its draw.
+const DRAWS: [(&str, Vote, &[u8]); 9] = [
+    ("no draw, by number", EVEN, &[]),
+    ("a draw for 0", EVEN, &[1, 0]),
+    ("a draw for 1", EVEN, &[2, 0]),
+    ("a draw that decides nothing", EVEN, &[0, 0]),
+    ("the first that decides", EVEN, &[0, 0, 2, 0, 1, 0]),
+    ("a draw against who is ahead", CIRCLE, &[7, 0]),
+    ("a ballot that does not exist", EVEN, &[0, 0, 3, 0]),
+    ("a ballot drawn twice", EVEN, &[1, 0, 2, 0, 1, 0]),
+    ("half a number", EVEN, &[1, 0, 9]),
 ];
 
 fn print_count(rt: &HostRuntime, name: &str, bytes: &[u8], draw: &[u8]) -> anyhow::Result<()> {
@@ -44,7 +40,13 @@ fn print_short(
     let mut table = vec![in heap; 7u16; table]?;
     let mut strengths = vec![in heap; 7u16; strengths]?;
     let mut sheet = vec![in heap; 7u8; sheet]?;
-    let answer = count(&EVEN, &[], &mut table, &mut strengths, &mut sheet);
+    let answer = count(
+        &EVEN.file(heap)?,
+        &[],
+        &mut table,
+        &mut strengths,
+        &mut sheet,
+    );
     let changed = table.iter().chain(strengths.iter()).any(|n| *n != 7)
         || sheet.iter().any(|n| *n != 7);
     match answer {
@@ -55,9 +57,16 @@ fn print_short(
 }
 
 pub fn all(rt: &HostRuntime) -> anyhow::Result<()> {
-    for (name, bytes, draw) in DRAWS {
-        print_count(rt, name, bytes, draw)?;
+    for (name, vote, draw) in DRAWS {
+        print_count(rt, name, &vote.file(rt.alloc())?, draw)?;
     }
+    let even = EVEN.file(rt.alloc())?;
+    print_count(
+        rt,
+        "bad ballots before a bad draw",
+        even.get(..3).unwrap_or(&[]),
+        &[1],
+    )?;
     print_short(rt, 3, 4, 31)?;
     print_short(rt, 4, 3, 31)?;
     print_short(rt, 4, 4, 30)?;

@@ -1,5 +1,6 @@
 // A provisional count, ballot by ballot.
-use crate::CIRCLE;
+use crate::votes::CIRCLE;
+use ballots::{Ballot, BallotFile};
 use provisional::Provisional;
 
 fn print_refused(rt: &HostRuntime, name: &str, candidates: usize) -> anyhow::Result<()> {
@@ -10,11 +11,11 @@ fn print_refused(rt: &HostRuntime, name: &str, candidates: usize) -> anyhow::Res
     Ok(())
 }
 
-fn add(rt: &HostRuntime, count: &mut Provisional, ballot: &[u8]) -> anyhow::Result<()> {
-    if let Err(refusal) = count.add(ballot) {
+fn add(rt: &HostRuntime, count: &mut Provisional, ranks: &[u8]) -> anyhow::Result<()> {
+    if let Err(refusal) = count.add(Ballot { ranks }) {
         print!(rt; "{refusal}, ")?;
     }
-    println!(rt; "papers {} best {:b}", count.ballots(), count.best())?;
+    println!(rt; "papers {} best {:b}", count.ballots(), count.best().bits())?;
     Ok(())
 }
 
@@ -22,9 +23,10 @@ pub fn all(rt: &HostRuntime) -> anyhow::Result<()> {
     print_refused(rt, "no candidates", 0)?;
     print_refused(rt, "30 candidates", 30)?;
     print_refused(rt, "31 candidates", 31)?;
+    let file = CIRCLE.file(rt.alloc())?;
     let mut count = Provisional::new(3)?;
-    for ballot in ballots::read(&CIRCLE)?.iter() {
-        add(rt, &mut count, ballot)?;
+    for ballot in BallotFile::read(&file)?.iter() {
+        add(rt, &mut count, ballot.ranks)?;
     }
     add(rt, &mut count, &[1, 2])?;
     add(rt, &mut count, &[1, 2, 3, 4])
