@@ -1,11 +1,13 @@
 // Random files with a clone set, of which some are struck.
 ghost use Rattle.std.specs.Prelude.{◌*◌, ◌≤◌};
+ghost use Rattle.slow_count.specs.declared.table.TheConstants.{MOST};
 
-use crate::failure::Failure;
+use crate::failure::{Disagreement, Failure};
 use crate::random::{MOST_LEVELS, Random, Ranks};
-use crate::slow::MOST;
-use ballots::holds;
+use ballot_files::Votes;
+use ballots::{Bits, CandidateSet};
 use best::best_of_both;
+use slow_count::MOST;
 use std::alloc::{AllocError, Global};
 
 // How many files with a clone set are tried.
@@ -14,12 +16,14 @@ const FILES: u16 = 5000;
 // How far two levels are apart, so that the clones have room between them.
 const APART: u8 = 4;
 
-// The number of candidates, the clone set, and the set of those that stay: all others, and one of the clone set at least.
+// The number of candidates, the clone set, and the set of those that stay: all others, and one of the clone set at
+// least.
 #[derive(Clone, Copy)]
 struct Clones {
     candidates: u8,
-    members: u32,
-    stay: u32,
+    members: CandidateSet,
+    stay: CandidateSet,
+    ghost few: { candidates ≤ MOST },
 }
 
 // A file, and the file that it is to become when all that do not stay are struck.
@@ -29,9 +33,9 @@ struct Files {
     struck: Vec<u8>,
 }
 
-// The set of one candidate.
-fn only(x: u8) -> u32 {
-    1u32.rotate_left(u32::from(x))
+// The set of one candidate, as bits.
+fn only(x: u8) -> Bits {
+    Bits::rotate_left(1, u32::from(x))
 }
 
 // One of the clone set stays, another is struck, and of the rest some are in the set and some of those stay.
@@ -43,8 +47,8 @@ fn draw_clones(random: &mut Random) -> Clones {
     let stay = (!members | random.set() | only(one)) & !only(other);
     Clones {
         candidates,
-        members,
-        stay,
+        members: CandidateSet::from_bits(members),
+        stay: CandidateSet::from_bits(stay),
     }
 }
 
@@ -63,7 +67,7 @@ impl Clones {
     // How many stay.
     fn staying(&self) -> u8 {
         (0..self.candidates)
-            .filter(|x| holds(self.stay, usize::from(*x)))
+            .filter(|x| self.stay.contains(usize::from(*x)))
             .count() as u8
     }
 
@@ -73,7 +77,7 @@ impl Clones {
             .iter()
             .enumerate()
             .take(usize::from(self.candidates))
-            .any(|(x, other)| !holds(self.members, x) && *other == rank)
+            .any(|(x, other)| !self.members.contains(x) && *other == rank)
     }
 
     // A ballot on which the clones stand together: all level with some other candidate, or close to each other with
@@ -83,7 +87,7 @@ impl Clones {
         let level = random.rank(ranks) * APART;
         let shared = self.is_shared(&ballot, level);
         for (x, rank) in ballot.iter_mut().enumerate() {
-            if holds(self.members, x) {
+            if self.members.contains(x) {
                 *rank = if shared {
                     level
                 } else {
@@ -95,41 +99,51 @@ impl Clones {
     }
 
     // A set of those that stay, who are numbered anew in the struck file, by their numbers in the file.
-    fn numbered_back(&self, struck: u32) -> u32 {
+    fn numbered_back(&self, struck: CandidateSet) -> Bits {
         (0..self.candidates)
-            .filter(|x| holds(self.stay, usize::from(*x)))
+            .filter(|x| self.stay.contains(usize::from(*x)))
             .enumerate()
-            .filter(|(number, _)| holds(struck, *number))
+            .filter(|(number, _)| struck.contains(*number))
             .fold(0, |set, (_, x)| set | only(x))
     }
 
     // Whether the best of the file and of the struck file are the same of the others, and of the clone set as a whole.
-    fn same_best(&self, all: u32, struck: u32) -> bool {
+    fn same_best(&self, all: CandidateSet, struck: CandidateSet) -> bool {
+        let all = all.bits();
         let kept = self.numbered_back(struck);
-        let others = !self.members;
-        all & others == kept & others && (all & self.members != 0) == (kept & self.members != 0)
+        let members = self.members.bits();
+        all & !members == kept & !members && (all & members != 0) == (kept & members != 0)
+    }
+
+    // The ranks of those that stay.
+    fn staying_ranks(&self, heap: Global, ballot: &[u8; MOST]) -> Result<Vec<u8>, AllocError> {
+        ballot
+            .iter()
+            .take(usize::from(self.candidates))
+            .enumerate()
+            .filter(|(x, _)| self.stay.contains(*x))
+            .map(|(_, rank)| *rank)
+            .collect(heap)
     }
 
     fn draw_files(&self, random: &mut Random) -> Result<Files, AllocError> {
         let ballots = random.ballots();
         let ranks = random.ranks();
-        let mut all = vec![in random.heap; self.candidates, ballots, 0]?;
-        let mut struck = vec![in random.heap; self.staying(), ballots, 0]?;
+        let mut all = Votes::new(random.heap, self.candidates);
+        let mut struck = Votes::new(random.heap, self.staying());
         for _ in 0..ballots {
             let ballot = self.draw_ballot(random, ranks);
-            for (x, rank) in ballot.iter().take(usize::from(self.candidates)).enumerate() {
-                all.push(*rank)?;
-                if holds(self.stay, x) {
-                    struck.push(*rank)?;
-                }
-            }
+            all = all.ballot(&ballot[..usize::from(self.candidates)])?;
+            struck = struck.ballot(&self.staying_ranks(random.heap, &ballot)?)?;
         }
-        Ok(Files { all, struck })
+        Ok(Files {
+            all: all.bytes()?,
+            struck: struck.bytes()?,
+        })
     }
 }
 
-// Whether the struck file is as it is to become, with nothing written behind it, and the best of both files agree. Every
-// file here is one of ballots, so that a refusal is itself the disagreement.
+// Whether the struck file is as it is to become, with nothing written behind it, and the best of both files agree.
 fn agree(heap: Global, clones: &Clones, files: &Files) -> Result<bool, AllocError> {
     let mut struck = vec![in heap; 0u8; files.all.len()]?;
     let Ok(both) = best_of_both(&files.all, clones.stay, &mut struck) else {
@@ -152,9 +166,10 @@ fn trial(random: &mut Random) -> Result<(), Failure> {
     if agree(random.heap, &clones, &files)? {
         return Ok(());
     }
-    Err(Failure::Striking {
+    Err(Failure::Trial {
+        what: Disagreement::Striking,
         file: files.all,
-        struck: files.struck,
+        beside: files.struck,
     })
 }
 

@@ -20,17 +20,25 @@ pub enum Disagreement {
     Orders,
     #[error("orders disagree by a tie-break")]
     TieBreakOrders,
+    #[error("orders disagree by a draw")]
+    DrawnOrders,
+    #[error("draws disagree")]
+    Draws,
+    #[error("sheets disagree")]
+    Sheets,
+    #[error("striking disagrees")]
+    Striking,
 }
 
 #[derive(Debug, Drop, Error)]
 pub enum Failure {
-    // Behind the file stands what else the trial is about: here nothing.
-    #[error("{what}: {file:?} []")]
-    Count { what: Disagreement, file: Vec<u8> },
-    #[error("sheets disagree: {file:?} {sheet:?}")]
-    Sheets { file: Vec<u8>, sheet: Vec<u8> },
-    #[error("striking disagrees: {file:?} {struck:?}")]
-    Striking { file: Vec<u8>, struck: Vec<u8> },
+    // Beside the file stands what else the trial is about: a sheet, a draw, a struck file, or nothing.
+    #[error("{what}: {file:?} {beside:?}")]
+    Trial {
+        what: Disagreement,
+        file: Vec<u8>,
+        beside: Vec<u8>,
+    },
     #[error(transparent)]
     Memory(#[from(alloc)] AllocError),
     #[error(transparent)]

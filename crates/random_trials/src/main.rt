@@ -1,13 +1,13 @@
-// Runs the count on thousands of random files beside a slow count of its own, and prints what came of it: the gate
-// compares that with the file stdout.
+// Runs the count on thousands of random files beside a slow count, and prints what came of it: the gate compares that
+// with the file stdout.
 #![tactic(auto)]
 
 mod clones;
-mod comparing;
+mod comparison;
+mod draws;
 mod failure;
 mod random;
 mod sheets;
-mod slow;
 
 use failure::Failure;
 use random::Random;
@@ -15,8 +15,9 @@ use std::io;
 
 fn trials(rt: &HostRuntime) -> Result<(), Failure> {
     let mut random = Random::new(rt.alloc());
-    comparing::random_files(rt, &mut random)?;
-    clones::clone_files(rt, &mut random)
+    comparison::random_files(rt, &mut random)?;
+    clones::clone_files(rt, &mut random)?;
+    draws::drawn_files(rt, &mut random)
 }
 
 fn main(rt: HostRuntime) -> io::Result<()> {

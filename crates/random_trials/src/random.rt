@@ -2,8 +2,10 @@
 ghost use Rattle.std.specs.Prelude.{◌≤◌, ◌-◌};
 ghost use Rattle.random_trials.specs.declared.random.TheConstants.{MOST_LEVELS};
 
-use crate::slow::MOST;
+use ballot_files::Votes;
+use ballots::Bits;
 use best::TieBreak;
+use slow_count::MOST;
 use std::alloc::{AllocError, Global};
 
 // Where the numbers begin.
@@ -51,7 +53,7 @@ impl Random {
         self.place(usize::from(limit)) as u8
     }
 
-    // A place in so many bytes; 0 where there is none. std has no `From<u64> for usize`, hence `as`.
+    // A place in so many bytes; 0 where there is none.
     pub fn place(&mut self, length: usize) -> usize
         ensures { result ≤ length - 1 }
     {
@@ -66,9 +68,9 @@ impl Random {
         self.below(times) == 0
     }
 
-    // A set of candidates.
-    pub fn set(&mut self) -> u32 {
-        u32::from(self.below(1 << MOST))
+    // A set of candidates, as bits.
+    pub fn set(&mut self) -> Bits {
+        Bits::from(self.below(1 << MOST))
     }
 
     // Few levels and so many equal ranks, or many; few blanks, or many, or none.
@@ -106,18 +108,20 @@ impl Random {
         }
     }
 
-    // A file of one candidate at least, and at most as many as the slow count takes.
-    pub fn file(&mut self) -> Result<Vec<u8>, AllocError> {
+    // Votes for one candidate at least, and at most as many as the slow count takes.
+    pub fn votes(&mut self) -> Result<Votes, AllocError> {
         let candidates = self.below(MOST as u8) + 1;
         let ballots = self.ballots();
         let ranks = self.ranks();
-        let mut file = vec![in self.heap; candidates, ballots, 0]?;
+        let mut votes = Votes::new(self.heap, candidates);
+        let mut ballot = [0; MOST];
         for _ in 0..ballots {
-            for _ in 0..candidates {
-                file.push(self.rank(ranks))?;
+            for rank in ballot.iter_mut().take(usize::from(candidates)) {
+                *rank = self.rank(ranks);
             }
+            votes = votes.ballot(&ballot[..usize::from(candidates)])?;
         }
-        Ok(file)
+        Ok(votes)
     }
 
     // A tie-break order, in which some keys are equal.

@@ -1,18 +1,18 @@
-// The certificates of random files, as they are written and damaged. They are judged by a reader that shares no code with
-// the writer and the checker.
+// The certificates of random files, as they are written and damaged. They are judged by a reader that shares no code
+// with the writer and the checker.
 ghost use Rattle.std.specs.Prelude.{◌≤◌, length, IfSome};
 
 use crate::random::Random;
-use crate::slow::{MOST, SlowCount};
 use certificate::{certify, check};
 use pairwise::CELLS;
+use slow_count::{MOST, SlowCount, passes_twice};
 use std::alloc::AllocError;
 
 // How often the certificate of a file is damaged, each time as it was written.
 const DAMAGES: u8 = 10;
 
 // How many bytes there is room for in a certificate: the longest one.
-const ROOM: usize = 1 + MOST * MOST * 2 + MOST * (MOST - 1) * (7 + MOST) + 4;
+pub const ROOM: usize = 1 + MOST * MOST * 2 + MOST * (MOST - 1) * (7 + MOST) + 4;
 
 // How many of the damaged certificates were refused, how many were accepted, and how many of these have a path that
 // passes a candidate twice.
@@ -25,7 +25,7 @@ pub struct Verdicts {
 
 // How often a path may pass a candidate.
 #[derive(Clone, Copy)]
-enum Passing {
+pub enum Passing {
     Once,
     Any,
 }
@@ -33,7 +33,7 @@ enum Passing {
 impl Passing {
     fn allows(self, row: &[u8]) -> bool {
         match self {
-            Passing::Once => !SlowCount::passes_twice(row),
+            Passing::Once => !passes_twice(row),
             Passing::Any => true,
         }
     }
@@ -49,10 +49,10 @@ struct Entry<'a> {
 
 impl Entry<'_> {
     fn is_right(&self, slow: &SlowCount<'_>, x: usize, y: usize, passing: Passing) -> bool {
-        self.strength == slow.strength(x, y)
+        u32::from(self.strength) == slow.strengths.at(x, y)
             && slow.is_path(x, y, self.row)
             && passing.allows(self.row)
-            && slow.is_cut(x, y, self.cut)
+            && slow.is_cut(x, y, u64::from(self.cut))
     }
 }
 
@@ -97,11 +97,11 @@ impl<'a> Reader<'a> {
         Some(Entry { strength, row, cut })
     }
 
-    // Whether the table is that of the slow count. Plain `for`s, as in `has_entries`: the reader goes on at each pair.
+    // Whether the table is that of the slow count.
     fn has_table(&mut self, slow: &SlowCount<'_>) -> bool {
-        for x in 0..slow.candidates {
-            for y in 0..slow.candidates {
-                if self.number() != Some(slow.preferring(x, y)) {
+        for x in 0..usize::from(slow.file.candidates()) {
+            for y in 0..usize::from(slow.file.candidates()) {
+                if self.number().map(u32::from) != Some(slow.counts.at(x, y)) {
                     return false;
                 }
             }
@@ -111,8 +111,8 @@ impl<'a> Reader<'a> {
 
     // Whether the entries are right.
     fn has_entries(&mut self, slow: &SlowCount<'_>, passing: Passing) -> bool {
-        for x in 0..slow.candidates {
-            for y in 0..slow.candidates {
+        for x in 0..usize::from(slow.file.candidates()) {
+            for y in 0..usize::from(slow.file.candidates()) {
                 if x != y
                     && !self
                         .entry()
@@ -127,12 +127,14 @@ impl<'a> Reader<'a> {
 }
 
 // Whether the certificate has all that it should have, with nothing behind it.
-fn is_as_said(slow: &SlowCount<'_>, sheet: &[u8], passing: Passing) -> bool {
+pub fn is_as_said(slow: &SlowCount<'_>, sheet: &[u8], passing: Passing) -> bool {
     let mut reader = Reader { rest: sheet };
-    reader.byte().map(usize::from) == Some(slow.candidates)
+    reader.byte() == Some(slow.file.candidates())
         && reader.has_table(slow)
         && reader.has_entries(slow, passing)
-        && reader.set() == Some(slow.best())
+        && reader
+            .set()
+            .is_some_and(|set| slow.is_best_set(u64::from(set)))
         && reader.rest.is_empty()
 }
 
@@ -165,8 +167,7 @@ fn resized(random: &mut Random, sheet: &[u8]) -> Result<Vec<u8>, AllocError> {
     Ok(other)
 }
 
-// The place of the length of some path. Nothing is known here of a certificate's first byte, nor that what is left of a
-// slice is no longer than it: hence `saturating_sub`.
+// The place of the length of some path.
 fn path_place(random: &mut Random, sheet: &[u8]) -> Option<usize>
     ensures { IfSome result (λ place. place ≤ length sheet.now) }
 {
@@ -206,10 +207,9 @@ fn damaged(random: &mut Random, sheet: &[u8]) -> Result<Vec<u8>, AllocError> {
 }
 
 impl Verdicts {
-    // Whether the checker accepts the certificate exactly if it is as said; its verdict is counted. The counts saturate,
-    // since nothing here bounds how many certificates come.
+    // Whether the checker accepts the certificate exactly if it is as said; its verdict is counted.
     fn agrees(&mut self, slow: &SlowCount<'_>, sheet: &[u8]) -> bool {
-        let accepted = check(slow.bytes, sheet).is_ok();
+        let accepted = check(slow.file.bytes, sheet).is_ok();
         let right = is_as_said(slow, sheet, Passing::Any);
         let simple = is_as_said(slow, sheet, Passing::Once);
         self.refused = self.refused.saturating_add(u32::from(!accepted));
@@ -234,8 +234,7 @@ impl Verdicts {
         Ok(None)
     }
 
-    // The certificate that is wrong, or that the checker is wrong on. The file is one of ballots and there is room, so that a
-    // refusal is itself the disagreement.
+    // The certificate that is wrong, or that the checker is wrong on.
     pub fn wrong_sheet(
         &mut self,
         random: &mut Random,
@@ -244,13 +243,13 @@ impl Verdicts {
         let mut table = [0u16; CELLS];
         let mut strengths = [0u16; CELLS];
         let mut sheet = vec![in random.heap; 0u8; ROOM]?;
-        let Ok(certified) = certify(slow.bytes, &mut table, &mut strengths, &mut sheet) else {
+        let Ok(certified) = certify(slow.file.bytes, &mut table, &mut strengths, &mut sheet) else {
             return Ok(Some(sheet));
         };
         sheet.truncate(certified.length);
-        if certified.best != slow.best()
+        if !slow.is_best_set(u64::from(certified.best.bits()))
             || !is_as_said(slow, &sheet, Passing::Once)
-            || check(slow.bytes, &sheet).is_err()
+            || check(slow.file.bytes, &sheet).is_err()
         {
             return Ok(Some(sheet));
         }

@@ -2,57 +2,43 @@
 use crate::failure::{Disagreement, Failure};
 use crate::random::Random;
 use crate::sheets::Verdicts;
-use crate::slow::{MOST, SlowCount};
+use ballots::BallotFile;
 use best::TieBreak;
+use pairwise::Pairwise;
 use paths::Strengths;
+use slow_count::{MOST, SlowCount, Tie, passes_twice};
 use std::io;
 
 // How many random files are tried.
 const FILES: u16 = 20000;
 
-// The length of the slice that is lent for a path, and where in it the path begins.
-const LENT: usize = 8;
-
-const START: usize = 1;
-
-// What stands in the slice that is lent: nobody's number.
-const NOBODY: u8 = 255;
-
-// A path is written exactly where there is one, with no candidate twice, and nothing is written around it.
+// There is a path exactly where it should be, with no candidate twice.
 fn path_agrees(strengths: &Strengths, slow: &SlowCount<'_>, x: usize, y: usize) -> bool {
-    let mut lent = [NOBODY; LENT];
-    let length = strengths.write_path(x, y, &mut lent, START);
-    let written = START..START + length;
-    let around_it = lent
-        .iter()
-        .enumerate()
-        .any(|(at, z)| !written.contains(&at) && *z != NOBODY);
-    match lent.get(written) {
-        Some(row) => !around_it && slow.is_path(x, y, row) && !SlowCount::passes_twice(row),
-        None => false,
-    }
+    let path = strengths.path(x, y);
+    slow.is_path(x, y, path.as_slice()) && !passes_twice(path.as_slice())
 }
 
 // There is a cut for two different candidates, and for nobody else.
 fn cut_agrees(strengths: &Strengths, slow: &SlowCount<'_>, x: usize, y: usize) -> bool {
-    let set = strengths.cut(x, y);
-    if x == y || x >= slow.candidates || y >= slow.candidates {
+    let set = strengths.cut(x, y).bits();
+    let candidates = usize::from(slow.file.candidates());
+    if x == y || x >= candidates || y >= candidates {
         return set == 0;
     }
-    slow.is_cut(x, y, set)
+    slow.is_cut(x, y, u64::from(set))
 }
 
 fn orders_agree(strengths: &Strengths, slow: &SlowCount<'_>, tie_break: &TieBreak) -> bool {
     let counted = best::full_order(strengths, tie_break);
-    let expected = slow.order(&tie_break.keys);
+    let expected = slow.order(Tie::Keys(&tie_break.keys));
     counted.places.as_slice() == expected.as_slice()
 }
 
-// Whether the strengths, paths and cuts of all pairs and the best agree. Plain `for`s: each test has an error of its own.
+// Whether the strengths, paths and cuts of all pairs and the best agree.
 fn compare_answers(strengths: &Strengths, slow: &SlowCount<'_>) -> Result<(), Disagreement> {
     for x in 0..MOST {
         for y in 0..MOST {
-            if strengths.at(x, y) != slow.strength(x, y) {
+            if u32::from(strengths.at(x, y)) != slow.strengths.at(x, y) {
                 return Err(Disagreement::Strengths);
             }
             if !path_agrees(strengths, slow, x, y) {
@@ -63,7 +49,7 @@ fn compare_answers(strengths: &Strengths, slow: &SlowCount<'_>) -> Result<(), Di
             }
         }
     }
-    if best::best(strengths) != slow.best() {
+    if !slow.is_best_set(u64::from(best::best(strengths).bits())) {
         return Err(Disagreement::Best);
     }
     Ok(())
@@ -71,8 +57,8 @@ fn compare_answers(strengths: &Strengths, slow: &SlowCount<'_>) -> Result<(), Di
 
 // The same of the order too, by number and by another tie-break.
 fn compare(slow: &SlowCount<'_>, other: &TieBreak) -> Result<(), Disagreement> {
-    let pairwise = pairwise::tally(slow.bytes).map_err(|_| Disagreement::Refused)?;
-    let strengths = Strengths::of(&pairwise);
+    let file = BallotFile::read(slow.file.bytes).map_err(|_| Disagreement::Refused)?;
+    let strengths = Strengths::of(&Pairwise::of(file).wins());
     if !orders_agree(&strengths, slow, &TieBreak::by_number()) {
         return Err(Disagreement::Orders);
     }
@@ -92,13 +78,15 @@ struct Tally {
 impl Tally {
     // Tries one random file.
     fn trial(&mut self, random: &mut Random) -> Result<(), Failure> {
-        let file = random.file()?;
+        let file = random.votes()?.bytes()?;
         let slow = SlowCount::of(&file);
         if let Err(what) = compare(&slow, &random.tie_break()) {
-            return Err(Failure::Count { what, file });
+            let beside = Vec::new(random.heap);
+            return Err(Failure::Trial { what, file, beside });
         }
-        if let Some(sheet) = self.verdicts.wrong_sheet(random, &slow)? {
-            return Err(Failure::Sheets { file, sheet });
+        if let Some(beside) = self.verdicts.wrong_sheet(random, &slow)? {
+            let what = Disagreement::Sheets;
+            return Err(Failure::Trial { what, file, beside });
         }
         if slow.goes_over_others() {
             self.over_others = self.over_others.saturating_add(1);
@@ -115,7 +103,10 @@ impl Tally {
         } = self.verdicts;
         let damaged = refused.saturating_add(accepted);
         println!(rt;
-            "random files {FILES}, {over_others} with a strongest path over others: strengths agree, best agrees, order agrees, paths agree, cuts agree, sheets agree\ndamaged sheets {damaged}: {refused} refused, {accepted} still as said and accepted, {twice} of them with a candidate twice on a path"
+            "random files {FILES}, {over_others} with a strongest path over others: strengths agree, best agrees, order agrees, paths agree, cuts agree, sheets agree"
+        )?;
+        println!(rt;
+            "damaged sheets {damaged}: {refused} refused, {accepted} still as said and accepted, {twice} of them with a candidate twice on a path"
         )
     }
 }
