@@ -15,3 +15,4 @@ pub mod Elections
 pub mod Renumbered
 pub mod Striking
 pub mod Worked
+pub mod Wordings

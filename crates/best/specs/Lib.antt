@@ -7,3 +7,4 @@ pub mod Order
 pub mod Answers
 pub mod Worked
 pub mod inner
+pub mod SecondWording

@@ -3,6 +3,7 @@ ghost use Rattle.best.specs.Answers as Answers;
 ghost use Rattle.best.specs.Elections as Elections;
 ghost use Rattle.best.specs.Laws as Laws;
 ghost use Rattle.best.specs.Order as Order;
+ghost use Rattle.best.specs.SecondWording as SecondWording;
 ghost use Rattle.best.specs.TieBreak as TieBreak;
 ghost use Rattle.best.specs.Worked as Worked;
 
@@ -102,4 +103,14 @@ pub fn answers_are_clone_independent()
 // The best and the strengths of the worked counts are those of the definitions.
 pub fn worked_counts_hold()
     ensures { Worked.WorkedCounts }
+{}
+
+// The laws once more, in words of their own from the ballots up.
+pub fn second_wording_holds()
+    ensures somebody { SecondWording.SomebodyWins }
+    ensures preceding { SecondWording.PrecedingGoesOn }
+    ensures circle { SecondWording.InnerCircleWins }
+    ensures up { SecondWording.MovingUpDoesNoHarm }
+    ensures turned { SecondWording.TurnedBallotsTurnTheResult }
+    ensures clones { SecondWording.ClonesDoNotMatter }
 {}
