@@ -11,7 +11,7 @@ pub type Bits = u32;
 pub const ROOM: usize = Bits::BITS as usize;
 
 // A set of candidates: candidate x is in it where bit x is 1.
-#[derive(Clone, Copy, Debug, PartialEq, Eq)]
+#[derive(Clone, Copy, PartialEq, Eq)]
 pub struct CandidateSet {
     bits: Bits,
 }

@@ -14,5 +14,5 @@ pub use ballot::Ballot;
 pub use candidate_set::{Bits, CandidateSet, ROOM};
 pub use file::{BallotFile, Ballots, MOST_BALLOTS, MOST_CANDIDATES};
 pub use members::Members;
-pub use refusal::{Lent, Refusal};
+pub use refusal::{Lent, Refusal, RefusalText};
 pub use striking::strike;

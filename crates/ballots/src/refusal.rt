@@ -3,8 +3,16 @@ ghost use Rattle.std.specs.Prelude.{◌≡◌, Some};
 ghost use Rattle.ballots.specs.Refusals.{number_of, place_of, text_of};
 
 use crate::ROOM;
+use arrayvec::ArrayString;
+use itoa::Buffer;
 use std::error::Error;
 use std::fmt;
+
+// No text of a refusal is longer: two words, a number of one byte and a place.
+const LONGEST_TEXT: usize = 8 + 3 + 4 + 20;
+
+// The text of a refusal, in a room that is long enough for any.
+pub type RefusalText = ArrayString<LONGEST_TEXT>;
 
 // The place of a pair of candidates is `from × PAIR_STRIDE + to`.
 const PAIR_STRIDE: usize = ROOM;
@@ -13,7 +21,7 @@ const PAIR_STRIDE: usize = ROOM;
 const BEST_PLACE: usize = PAIR_STRIDE * PAIR_STRIDE - 1;
 
 // A slice that the caller lends to be written. The place of each in a refusal is its place here.
-#[derive(Clone, Copy, PartialEq, Eq, Debug)]
+#[derive(Clone, Copy, PartialEq, Eq)]
 pub enum Lent {
     Table,
     Strengths,
@@ -21,7 +29,7 @@ pub enum Lent {
     Ballots,
 }
 
-#[derive(Clone, Copy, PartialEq, Eq, Debug)]
+#[derive(Clone, Copy, PartialEq, Eq)]
 pub enum Refusal {
     // Bytes end too early, or go on.
     Length { at: usize },
@@ -72,15 +80,32 @@ impl Refusal {
             Refusal::Best => BEST_PLACE,
         }
     }
+
+    pub fn text(self) -> RefusalText
+        ensures { result.bytes ≡ text_of self }
+    {
+        let mut text = ArrayString::new();
+        text.push_str("refused ");
+        text.push_str(Buffer::new().format(self.number()));
+        text.push_str(" at ");
+        text.push_str(Buffer::new().format(self.place()));
+        text
+    }
 }
 
 impl fmt::Display for Refusal {
     ghost output = { λ r. Some (text_of r) };
 
     fn fmt<W: fmt::Write>(&self, f: &mut fmt::Formatter<W>) -> fmt::Result {
-        let number = self.number();
-        let place = self.place();
-        write!(f, "refused {number} at {place}")
+        f.write_str(self.text().as_str())
+    }
+}
+
+impl fmt::Debug for Refusal {
+    ghost debug_output = { λ r. Some (text_of r) };
+
+    fn fmt<W: fmt::Write>(&self, f: &mut fmt::Formatter<W>) -> fmt::Result {
+        f.write_str(self.text().as_str())
     }
 }
 
