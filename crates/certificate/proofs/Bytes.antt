@@ -69,6 +69,15 @@ module _ (sheet : List ℕ) where
       | inr l ↦ rw (get_or_past (take size (drop p sheet)) i 0 (omega (arith, length-take size (drop p sheet)))) (omega arith)
     ]
 
+    -- what is read is not above what its bytes can say
+    pub number_fits : (p : ℕ) → number_at sheet p < 256 ^ number_size
+    unfolding number_at
+    number_fits p = omega (arith, small_part number_size p 0, small_part number_size p 1)
+
+    pub set_fits : (p : ℕ) → set_at sheet p < 256 ^ set_size
+    unfolding set_at
+    set_fits p = omega (arith, small_part set_size p 0, small_part set_size p 1, small_part set_size p 2, small_part set_size p 3)
+
     part_long : (size p : ℕ) → p + size ≤ length sheet → length (take size (drop p sheet)) ≡ size
     part_long size p h = length-take-le size (drop p sheet) (rw (length-drop p sheet) (omega arith))
 

@@ -1,18 +1,20 @@
--- The certificate that is written: it is no longer than the longest, and what it claims is as said.
+-- The certificate that is written: how long it is, and that what it claims is as said.
 use Rattle.std.proofs.Common.{ℕ, ◌+◌, ◌-◌, ◌*◌, ◌≤◌, List, [], ◌∷◌, ◌++◌, map, length, inl, inr, add-mul, arith, length-append, ◌≡◌, ◌<◌, ◌≢◌, None, refl, subst}
 use Rattle.std.specs.List.{flat_map, AllByRecursion}
 use Rattle.std.proofs.lemmas.Bool.{cases_lt, le-ltb}
+use Rattle.std.proofs.lemmas.Nat.{mul-le}
 use Rattle.pairwise.specs.Counts.{win_by}
 use Rattle.pairwise.specs.Pairs.{pairs}
 use Rattle.pairwise.proofs.OrderedPairs.{length_pairs, pairs_each}
 use Rattle.paths.specs.Middles.{strength, row}
 use Rattle.paths.proofs.Parts.{row_shows}
 use Rattle.best.specs.Comparisons.{best_by}
-use Rattle.certificate.specs.Layout.{number_size, set_bytes, set_size, table_bytes, entry_bytes, certificate_of}
-use Rattle.certificate.specs.Certified.{entry_of, entries_by, certificate_by, longest}
+use Rattle.certificate.specs.Layout.{number_size, set_bytes, set_size, table_bytes, table_size, entry_bytes, certificate_of}
+use Rattle.certificate.specs.Certified.{entry_of, entries_by, certificate_by}
+use Rattle.certificate.specs.Laws.{RoomForAny}
 use Rattle.certificate.proofs.Tables.{table_length}
 use Rattle.certificate.proofs.Writing.{entry_length}
-use Rattle.ballots.specs.Format.{candidates_in}
+use Rattle.ballots.specs.Format.{most_candidates, candidates_in}
 use Rattle.ballots.specs.Refusals.{refusal}
 use Rattle.pairwise.specs.Pairwise.{counts_of}
 use Rattle.paths.specs.Cuts.{Cut}
@@ -43,15 +45,26 @@ module _ (w : ℕ → ℕ → ℕ) (v : ℕ) where
         add-mul (length xys) 1 (number_size + 1 + v + set_size),
       )
 
-  entries_short : length (flat_map entry_bytes (entries_by w v)) ≤ v * (v - 1) * (number_size + 1 + v + set_size)
-  entries_short = rw (← length_pairs v) (parts_short (pairs v))
+  pub entries_short : v ≤ most_candidates →
+      length (flat_map entry_bytes (entries_by w v)) ≤ most_candidates * (most_candidates - 1) * (number_size + 1 + most_candidates + set_size)
+  entries_short few =
+      let m : ℕ = most_candidates in
+      let number : length (pairs v) ≤ m * (m - 1) = rw (length_pairs v) (mul-le v (v - 1) m (m - 1) few (omega arith)) in
+      let all = mul-le (length (pairs v)) (number_size + 1 + v + set_size) (m * (m - 1)) (number_size + 1 + m + set_size) number (omega arith) in
+      omega (arith, parts_short (pairs v), all)
 
-pub certificate_short : (v : ℕ) (n : ℕ → ℕ → ℕ) → length (certificate_by v n) ≤ longest v
+-- how long a certificate is, and that there is room for it
+pub certificate_length : (v : ℕ) (n : ℕ → ℕ → ℕ) →
+    length (certificate_by v n) ≡ table_size v + length (flat_map entry_bytes (entries_by (win_by n) v)) + set_size
 unfolding certificate_by certificate_of
-certificate_short v n =
+certificate_length v n =
     let entries = flat_map entry_bytes (entries_by (win_by n) v) in
     let best = set_bytes (best_by (strength (win_by n) v) v) in
-    omega (arith, length-append (table_bytes v n) (entries ++ best), length-append entries best, table_length v n, entries_short (win_by n) v)
+    omega (arith, length-append (table_bytes v n) (entries ++ best), length-append entries best, table_length v n)
+
+pub room_for_any : RoomForAny
+room_for_any v n few =
+    omega (arith, certificate_length v n, entries_short (win_by n) v few, mul-le v v most_candidates most_candidates few few)
 
 module _ (w : ℕ → ℕ → ℕ) (v : ℕ) where
   entry_supported : (x y : ℕ) → x < v → y < v → x ≢ y → Supports w v x y (entry_of w v x y)

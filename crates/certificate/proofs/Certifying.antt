@@ -1,17 +1,21 @@
 -- What a call that certifies answers, and what it leaves in the slices that it is lent.
-use Rattle.std.proofs.Common.{◌≡◌, ℕ, List, Result, subst, length, take, drop, Some, None, Ok, Err, IfOk, Option, sym, refl, ap, ◌∙◌}
+use Rattle.std.proofs.Common.{◌≡◌, ℕ, ◌*◌, ◌<◌, ◌≤◌, true, false, ltb, List, ◌++◌, arith, Result, subst, length, take, drop, Some, None, Ok, Err, IfOk, Option, sym, refl, ap, ◌∙◌}
 use Rattle.ballots.specs.declared.refusal.Lent.TheVariants as lent
 use Rattle.ballots.specs.declared.refusal.Refusal.{Refusal}
+use Rattle.ballots.specs.declared.refusal.Refusal.TheVariants.{Short}
 use Rattle.pairwise.specs.Counts.{win_by}
 use Rattle.pairwise.specs.Grids.{number_for, rows, Copied}
 use Rattle.paths.specs.Middles.{strength}
 use Rattle.best.specs.Comparisons.{best_by, BestSet}
 use Rattle.best.proofs.Meanings.{is_best}
 use Rattle.certificate.specs.declared.counted.Counted.{Counted}
-use Rattle.certificate.specs.Certified.{strengths_by, certificate_by, no_sheet_room, room_refusal, Leaves}
+use Rattle.certificate.specs.Certified.{strengths_by, entries_by, certificate_by, room_refusal, Leaves}
+use Rattle.std.proofs.lemmas.Bool.{lt-ltb, le-ltb}
 use Rattle.std.proofs.lemmas.Bool.Decides.{nat_tests}
 use Rattle.std.proofs.lemmas.List.{take_at}
-use Rattle.std.specs.Option.{option_or}
+use Rattle.std.specs.List.{flat_map}
+use Rattle.certificate.specs.Layout.{entry_bytes, set_bytes, certificate_of}
+use Rattle.certificate.specs.inner.Parts.{table_of, all_entries, best_in, certificate_in}
 use Rattle.ballots.specs.declared.refusal.Lent.{Lent}
 use Rattle.ballots.specs.Format.{candidates_in, ballots_in}
 use Rattle.ballots.specs.Loans.{result_of, slice_after, no_room}
@@ -32,6 +36,13 @@ module _ (c : Counted) where
   pub by_counts : (P : (ℕ → ℕ → ℕ) → ℕ → Type 0) → P (number_for c.strengths.wins) c.strengths.wins.candidates → P (win_by n) v
   by_counts P p = subst (λ w. P w v) c.by_wins (subst (λ k. P (number_for c.strengths.wins) k) c.few p)
 
+  -- the certificate in three parts
+  pub in_parts : certificate_in c.pairwise ≡ table_of c.pairwise ++ (all_entries c.strengths ++ set_bytes (best_in c.pairwise))
+  unfolding certificate_by certificate_of
+  in_parts =
+      ap (λ es. table_of c.pairwise ++ (es ++ set_bytes (best_in c.pairwise)))
+      (by_counts (λ w v. flat_map entry_bytes (entries_by w v) ≡ all_entries c.strengths) refl)
+
   -- the strengths that are copied, and the set of the best
   pub copied_strengths : {old new : List ℕ} {r : Result (Unit {0}) Refusal} →
       Copied lent.Strengths (rows c.strengths.wins.candidates (strength (number_for c.strengths.wins) c.strengths.wins.candidates)) old new r →
@@ -41,8 +52,29 @@ module _ (c : Counted) where
   pub best_counted : {set : ℕ} → BestSet (number_for c.strengths.wins) c.strengths.wins.candidates set → set ≡ best_by (strength (win_by n) v) v
   best_counted {set} h = by_counts (λ w v. set ≡ best_by (strength w v) v) (is_best (number_for c.strengths.wins) c.strengths.wins.candidates h)
 
--- whether there is room
-pub ruleset room = (nat_tests, length-rows)
+-- whether there is room for the table, the strengths and the certificate
+module _ (v : ℕ) (n : ℕ → ℕ → ℕ) (table strengths sheet : List ℕ) where
+  too_few : (f : ℕ → ℕ → ℕ) (slice : List ℕ) → length slice < v * v → ltb (length slice) (length (rows v f)) ≡ true
+  too_few f slice h = lt-ltb (length slice) (length (rows v f)) (rw (length-rows v f) h)
+
+  enough : (f : ℕ → ℕ → ℕ) (slice : List ℕ) → v * v ≤ length slice → ltb (length slice) (length (rows v f)) ≡ false
+  enough f slice h = le-ltb (length slice) (length (rows v f)) (rw (length-rows v f) h)
+
+  abbrev s : ℕ → ℕ → ℕ
+  s = strength (win_by n) v
+
+  pub short_table : length table < v * v → room_refusal v n table strengths sheet ≡ Some (Short lent.Table)
+  short_table t = rw (too_few n table t)
+
+  pub short_strengths : v * v ≤ length table → length strengths < v * v → room_refusal v n table strengths sheet ≡ Some (Short lent.Strengths)
+  short_strengths t r = rw (enough n table t, too_few s strengths r)
+
+  module _ (t : v * v ≤ length table) (r : v * v ≤ length strengths) where
+    pub short_sheet : length sheet < length (certificate_by v n) → room_refusal v n table strengths sheet ≡ Some (Short lent.Sheet)
+    short_sheet h = rw (enough n table t, enough s strengths r, lt-ltb (length sheet) (length (certificate_by v n)) h)
+
+    pub all_room : length (certificate_by v n) ≤ length sheet → room_refusal v n table strengths sheet ≡ None
+    all_room h = rw (enough n table t, enough s strengths r, le-ltb (length sheet) (length (certificate_by v n)) h)
 
 -- a call that is refused answers why, and leaves all as it was
 pub refused_is : {A : Type 0} (o : Option Refusal) (a : A) (e : Refusal) → Err e ≡ result_of o a → o ≡ Some e
@@ -62,15 +94,16 @@ pub record HasRooms (v : ℕ) (n : ℕ → ℕ → ℕ) (table strengths sheet :
   pub none : room_refusal v n table strengths sheet ≡ None
   pub for_table : no_room lent.Table (rows v n) table ≡ None
   pub for_strengths : no_room lent.Strengths (strengths_by v n) strengths ≡ None
+  pub for_sheet : length (certificate_by v n) ≤ length sheet
 
 module _ (v : ℕ) (n : ℕ → ℕ → ℕ) (table strengths sheet : List ℕ) where
   pub has_rooms : Ok tt ≡ result_of {A = Unit {0}} (room_refusal v n table strengths sheet) tt → HasRooms v n table strengths sheet
   has_rooms h =
       let none = (result_of-ok (room_refusal v n table strengths sheet) tt tt (sym h)).0 in
-      let rest = option_or (no_room lent.Strengths (strengths_by v n) strengths) (no_sheet_room v sheet) in
-      let first = neither (no_room lent.Table (rows v n) table) rest none in
-      let second = neither (no_room lent.Strengths (strengths_by v n) strengths) (no_sheet_room v sheet) first.1 in
-      record { none = none; for_table = first.0; for_strengths = second.0 }
+      let last = no_room lent.Sheet (certificate_by v n) sheet in
+      let first = neither (no_room lent.Table (rows v n) table) _ none in
+      let second = neither (no_room lent.Strengths (strengths_by v n) strengths) last first.1 in
+      record { none = none; for_table = first.0; for_strengths = second.0; for_sheet = grind (arith, nat_tests) }
 
   pub leaves_fronts : {table' strengths' sheet' : List ℕ} → HasRooms v n table strengths sheet →
       Copied lent.Table (rows v n) table table' (Ok tt) → Copied lent.Strengths (strengths_by v n) strengths strengths' (Ok tt) →

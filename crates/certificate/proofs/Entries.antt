@@ -6,7 +6,7 @@ use Rattle.std.proofs.lemmas.Bool.Decides.{nat_tests}
 use Rattle.std.proofs.lemmas.List.{drop_more, drop-drop, take_at, take-append-drop, length-drop, length-take-le}
 use Rattle.ballots.proofs.Loans.{neither}
 use Rattle.paths.specs.Paths.{IsPair}
-use Rattle.certificate.specs.Layout.{number_size, set_size, number_bytes, set_bytes, Entry, entry_bytes}
+use Rattle.certificate.specs.Layout.{number_size, set_size, number_bytes, set_bytes, Entry, path_bytes, entry_bytes}
 use Rattle.certificate.specs.Reading.{number_at, set_at, path_place, path_length, cut_place, entry_end, entry_at, entries_from, entries_end}
 use Rattle.certificate.specs.Judge.{is_path, is_cut, entry_refusal, entries_refusal}
 use Rattle.certificate.specs.Truth.{Supports, AllSupported}
@@ -34,45 +34,70 @@ abbrev pub Fits : Entry → Type 0
 Fits e = (e.strength < 256 ^ number_size) × (e.cut < 256 ^ set_size)
 
 module _ (sheet : List ℕ) where
-  -- an entry that stands from p on is what is read there
-  record IsThere (p : ℕ) (e : Entry) (rest : List ℕ) : Type 0 where
-    strength : number_at sheet p ≡ e.strength
-    path : (entry_at sheet p).path ≡ e.path
-    cut : (entry_at sheet p).cut ≡ e.cut
-    within : entry_end sheet p ≤ length sheet
-    behind : drop (entry_end sheet p) sheet ≡ rest
+  -- a strength and a path that stand from p on are what is read there
+  pub record PathThere (p s : ℕ) (row rest : List ℕ) : Type 0 where
+    pub strength : number_at sheet p ≡ s
+    pub path : (entry_at sheet p).path ≡ row
+    pub within : cut_place sheet p ≤ length sheet
+    pub behind : drop (cut_place sheet p) sheet ≡ rest
 
-  entry_there : (p : ℕ) (e : Entry) (rest : List ℕ) → Fits e → drop p sheet ≡ entry_bytes e ++ rest → IsThere p e rest
+  pub path_there : (p s : ℕ) (row rest : List ℕ) → s < 256 ^ number_size → drop p sheet ≡ path_bytes s row ++ rest → PathThere p s row rest
+  unfolding path_bytes
+  path_there p s row rest fits h =
+      let after = next sheet p (number_bytes s) (length row ∷ (row ++ rest)) h in
+      let count : path_length sheet p ≡ length row = first_there sheet (p + number_size) (length row) (row ++ rest) after in
+      let path : drop (path_place p) sheet ≡ row ++ rest = next sheet (p + number_size) (length row ∷ []) (row ++ rest) after in
+      record {
+        strength = number_there sheet p s (length row ∷ (row ++ rest)) fits h;
+        path = rw (count, path) (take_at row rest (length row) refl);
+        within = rw count (omega (arith, long_there sheet p (path_bytes s row) rest (omega arith) h));
+        behind = rw count (next sheet (path_place p) row rest path);
+      }
+
+  -- and so is an entry
+  pub record IsThere (p : ℕ) (e : Entry) (rest : List ℕ) : Type 0 where
+    pub strength : number_at sheet p ≡ e.strength
+    pub path : (entry_at sheet p).path ≡ e.path
+    pub cut : (entry_at sheet p).cut ≡ e.cut
+    pub within : entry_end sheet p ≤ length sheet
+    pub behind : drop (entry_end sheet p) sheet ≡ rest
+
+  pub entry_there : (p : ℕ) (e : Entry) (rest : List ℕ) → Fits e → drop p sheet ≡ entry_bytes e ++ rest → IsThere p e rest
   unfolding entry_bytes
   entry_there p e rest fits h =
       let cut : List ℕ = set_bytes e.cut in
-      let after = next sheet p (number_bytes e.strength) (length e.path ∷ ((e.path ++ cut) ++ rest)) h in
-      let count : path_length sheet p ≡ length e.path = first_there sheet (p + number_size) (length e.path) ((e.path ++ cut) ++ rest) after in
-      let path : drop (path_place p) sheet ≡ e.path ++ (cut ++ rest) =
-      next sheet (p + number_size) (length e.path ∷ []) ((e.path ++ cut) ++ rest) after ∙ append_assoc e.path cut rest in
-      let set : drop (cut_place sheet p) sheet ≡ cut ++ rest = rw count (next sheet (path_place p) e.path (cut ++ rest) path) in
+      let front : List ℕ = path_bytes e.strength e.path in
+      let t = path_there p e.strength e.path (cut ++ rest) fits.0 (h ∙ append_assoc front cut rest) in
       record {
-        strength = number_there sheet p e.strength (length e.path ∷ ((e.path ++ cut) ++ rest)) fits.0 h;
-        path = rw (count, path) (take_at e.path (cut ++ rest) (length e.path) refl);
-        cut = set_there sheet (cut_place sheet p) e.cut rest fits.1 set;
-        within = long_there sheet (cut_place sheet p) cut rest (omega arith) set;
-        behind = next sheet (cut_place sheet p) cut rest set;
+        strength = t.strength;
+        path = t.path;
+        cut = set_there sheet (cut_place sheet p) e.cut rest fits.1 t.behind;
+        within = long_there sheet (cut_place sheet p) cut rest (omega arith) t.behind;
+        behind = next sheet (cut_place sheet p) cut rest t.behind;
       }
 
   module _ (small : (i : ℕ) → get_or sheet i 0 < 256) where
-    entry_here : (p : ℕ) → entry_end sheet p ≤ length sheet → drop p sheet ≡ entry_bytes (entry_at sheet p) ++ drop (entry_end sheet p) sheet
-    unfolding entry_bytes
-    entry_here p l =
+    pub path_here : (p : ℕ) → cut_place sheet p ≤ length sheet →
+        drop p sheet ≡ path_bytes (number_at sheet p) (entry_at sheet p).path ++ drop (cut_place sheet p) sheet
+    unfolding path_bytes
+    path_here p l =
         let k : ℕ = path_length sheet p in
         let path : List ℕ = take k (drop (path_place p) sheet) in
-        let cut : List ℕ = set_bytes (set_at sheet (cut_place sheet p)) in
-        let rest : List ℕ = drop (entry_end sheet p) sheet in
+        let rest : List ℕ = drop (cut_place sheet p) sheet in
         let long : length path ≡ k = length-take-le k (drop (path_place p) sheet) (rw (length-drop (path_place p) sheet) (omega arith)) in
-        let tail : drop (path_place p) sheet ≡ path ++ (cut ++ rest) =
-        sym (take-append-drop k (drop (path_place p) sheet)) ∙ ap (λ z. path ++ z) (drop-drop k (path_place p) sheet ∙ set_here sheet small (cut_place sheet p) l) in
+        let tail : drop (path_place p) sheet ≡ path ++ rest =
+        sym (take-append-drop k (drop (path_place p) sheet)) ∙ ap (λ z. path ++ z) (drop-drop k (path_place p) sheet) in
         number_here sheet small p (omega arith)
         ∙ ap (λ z. number_bytes (number_at sheet p) ++ z)
-        (drop_more sheet (p + number_size) 0 (omega arith) ∙ (ap (λ z. k ∷ z) (tail ∙ sym (append_assoc path cut rest)) ∙ ap (λ i. i ∷ ((path ++ cut) ++ rest)) (sym long)))
+        (drop_more sheet (p + number_size) 0 (omega arith) ∙ (ap (λ z. k ∷ z) tail ∙ ap (λ i. i ∷ (path ++ rest)) (sym long)))
+
+    pub entry_here : (p : ℕ) → entry_end sheet p ≤ length sheet → drop p sheet ≡ entry_bytes (entry_at sheet p) ++ drop (entry_end sheet p) sheet
+    unfolding entry_bytes
+    entry_here p l =
+        let front : List ℕ = path_bytes (number_at sheet p) (entry_at sheet p).path in
+        let cut : List ℕ = set_bytes (set_at sheet (cut_place sheet p)) in
+        path_here p (omega arith)
+        ∙ (ap (λ z. front ++ z) (set_here sheet small (cut_place sheet p) l) ∙ sym (append_assoc front cut (drop (entry_end sheet p) sheet)))
 
 -- entries that are not refused
 module _ (w : ℕ → ℕ → ℕ) (v : ℕ) (beyond : (a z : ℕ) → v ≤ z → w a z ≡ 0) (sheet : List ℕ) where

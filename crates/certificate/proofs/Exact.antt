@@ -26,14 +26,14 @@ use Rattle.best.proofs.Meanings.{best_meaning, is_best}
 use Rattle.certificate.specs.Layout.{number_size, set_size, set_bytes, Entry, entry_bytes, table_bytes, table_size, certificate_of}
 use Rattle.certificate.specs.Reading.{set_at, entries_in, entries_end}
 use Rattle.certificate.specs.Judge.{bytes_refusal, entries_refusal, end_refusal, sheet_refusal, judge}
-use Rattle.certificate.specs.Truth.{StrengthsAreTrue, TrueTo, Supports, AllSupported, AsSaid}
+use Rattle.certificate.specs.Truth.{StrengthsAreTrue, TrueTo, ShowsStrength, Supports, AllSupported, AsSaid}
 use Rattle.certificate.proofs.Bytes.{next, stands_here, stands_there, set_there, set_here}
 use Rattle.certificate.proofs.Entries.{Fits, entries_here, entries_supported, supported_entries}
 use Rattle.certificate.proofs.Support.{beyond, supports_strongest}
 use Rattle.certificate.proofs.Tables.{table_length}
 
 -- the pairs are pairs
-all_pairs : (v : ℕ) → AllByRecursion (λ xy. IsPair v xy.0 xy.1) (pairs v)
+pub all_pairs : (v : ℕ) → AllByRecursion (λ xy. IsPair v xy.0 xy.1) (pairs v)
 all_pairs v = pairs_each (λ xy. IsPair v xy.0 xy.1) v (λ x y xv yv ne. record { first = xv; second = yv; apart = ne })
 
 -- the certificate ends with the set of the best
@@ -105,11 +105,11 @@ module _ (v : ℕ) (f : ℕ → ℕ → ℕ) (sheet : List ℕ) where
     set_small : (set : ℕ) → set < 2 ^ v → set < 256 ^ set_size
     set_small set h = omega (arith, pow_mono {i = v} {j = 8 * set_size} (omega arith))
 
-    fits : (x y : ℕ) (e : Entry) → Supports w v x y e → Fits e
-    fits x y e s = (
-      elim s.path [ inl none ↦ omega (arith, none.1) | inr p ↦ omega (arith, p.weak, weakest_small x p.rest) ],
-      set_small e.cut s.cut.bounded,
-    )
+    pub strength_small : (x y s : ℕ) (row : List ℕ) → ShowsStrength w v x y s row → s < 256 ^ number_size
+    strength_small x y s row shows = elim shows [ inl none ↦ omega (arith, none.1) | inr p ↦ omega (arith, p.weak, weakest_small x p.rest) ]
+
+    pub fits : (x y : ℕ) (e : Entry) → Supports w v x y e → Fits e
+    fits x y e s = (strength_small x y e.strength e.path s.path, set_small e.cut s.cut.bounded)
 
     -- a certificate that is as said
     pub said_met : (entries : List Entry) (set : ℕ) → AllSupported w v (pairs v) entries → BestSet w v set →
@@ -126,7 +126,7 @@ module _ (v : ℕ) (f : ℕ → ℕ → ℕ) (sheet : List ℕ) where
         (end_met _ end sheet (omega (arith, ap length r.1, length-drop end sheet)) same)
 
 -- no win is above what a number holds
-wins_small : (bytes : List ℕ) → ((i : ℕ) → get_or bytes i 0 < 256) → (x y : ℕ) → win_by (counts_of bytes) x y < 256 ^ number_size
+pub wins_small : (bytes : List ℕ) → ((i : ℕ) → get_or bytes i 0 < 256) → (x y : ℕ) → win_by (counts_of bytes) x y < 256 ^ number_size
 wins_small bytes small x y =
     let n = counts_of bytes in
     let fits : n x y < 256 ^ number_size =

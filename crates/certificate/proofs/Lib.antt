@@ -5,5 +5,6 @@ pub mod Writing
 pub mod Bytes
 pub mod Entries
 pub mod Exact
+pub mod Refusing
 pub mod Certifying
 pub mod Certificates

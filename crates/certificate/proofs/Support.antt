@@ -1,5 +1,5 @@
 -- The tests of a path and of a cut say what they should.
-use Rattle.std.proofs.Common.{◌≡◌, ℕ, ◌^◌, ◌<◌, ◌≤◌, min, Bool, true, not, eqb, ltb, leb, ◌≢◌, ◌⊎◌, List, [], ◌∷◌, sym, refl, ap, ◌∙◌, inl, inr, arith}
+use Rattle.std.proofs.Common.{◌≡◌, ℕ, ◌^◌, ◌<◌, ◌≤◌, min, Bool, true, not, eqb, ltb, leb, ◌≢◌, List, [], ◌∷◌, sym, refl, ap, ◌∙◌, inl, inr, arith}
 use Rattle.std.specs.List.{AllByRecursion, list_all}
 use Rattle.std.proofs.lemmas.Bool.{cases_Bool, and_parts, and_from, cases_lt, eqb-true, eq-eqb, ltb-true, lt-ltb, le-ltb, not-true, not_from_false, false≢true}
 use Rattle.std.proofs.lemmas.Bool.Decides.{nat_tests}
@@ -21,7 +21,7 @@ use Rattle.paths.proofs.Crossings.{path_and_cut}
 use Rattle.paths.proofs.Grids.{is_strength}
 use Rattle.certificate.specs.Layout.{Entry}
 use Rattle.certificate.specs.Judge.{weakest_to, is_path, crosses, is_cut}
-use Rattle.certificate.specs.Truth.{Supports}
+use Rattle.certificate.specs.Truth.{ShowsStrength, Supports}
 
 -- no candidate but those below v
 pub within_all : (set v : ℕ) → v ≤ most_candidates → leb set (set_of (λ _. true) (min v room)) ≡ ltb set (2 ^ v)
@@ -58,7 +58,7 @@ module _ (w : ℕ → ℕ → ℕ) (v : ℕ) (none : (a z : ℕ) → v ≤ z →
   weakest_on x y z (a ∷ zs) h = let r = weakest_on z y a zs h.2 in (rw r.0, omega (arith, h.1, r.1))
 
   module _ (x y s : ℕ) where
-    path_true : (row : List ℕ) → x < v → is_path w x y s row ≡ true → ((row ≡ []) × (s ≡ 0)) ⊎ Shows w (below v) x y s row
+    pub path_true : (row : List ℕ) → x < v → is_path w x y s row ≡ true → ShowsStrength w v x y s row
     unfolding is_path
     path_true [] xv h = inl (refl, eqb-true s 0 h)
     path_true (z ∷ zs) xv h =
@@ -76,13 +76,13 @@ module _ (w : ℕ → ℕ → ℕ) (v : ℕ) (none : (a z : ℕ) → v ≤ z →
         and_from (eqb x x) _ (eq-eqb x x refl)
         (and_from (eqb (weakest_to w y x (z ∷ zs)) s) _ (eq-eqb _ s ((weakest_on x y z zs l).0 ∙ k)) (lt-ltb 0 s some))
 
-    true_path : (row : List ℕ) → x ≢ y → ((row ≡ []) × (s ≡ 0)) ⊎ Shows w (below v) x y s row → is_path w x y s row ≡ true
+    pub true_path : (row : List ℕ) → x ≢ y → ShowsStrength w v x y s row → is_path w x y s row ≡ true
     unfolding is_path
     true_path row ne (inl (e, z)) = rw e (eq-eqb s 0 z)
     true_path row ne (inr p) = rw p.first (shown_path p.rest ne p.leads p.weak p.some)
 
     -- the set parts the pair
-    cut_true : (set : ℕ) → is_cut w v x y s set ≡ true → Cut w v x y s set
+    pub cut_true : (set : ℕ) → is_cut w v x y s set ≡ true → Cut w v x y s set
     unfolding is_cut
     cut_true set h =
         let p = and_parts (ltb set (2 ^ v)) _ h in
@@ -98,7 +98,7 @@ module _ (w : ℕ → ℕ → ℕ) (v : ℕ) (none : (a z : ℕ) → v ≤ z →
               grind (arith, nat_tests);
         }
 
-    true_cut : (set : ℕ) → Cut w v x y s set → is_cut w v x y s set ≡ true
+    pub true_cut : (set : ℕ) → Cut w v x y s set → is_cut w v x y s set ≡ true
     unfolding is_cut
     true_cut set c =
         and_from (ltb set (2 ^ v)) _ (lt-ltb set (2 ^ v) c.bounded) (and_from (holds set x) _ c.has
@@ -126,7 +126,7 @@ module _ (w : ℕ → ℕ → ℕ) (v : ℕ) (none : (a z : ℕ) → v ≤ z →
 pub supports_strongest : (w : ℕ → ℕ → ℕ) (v x y : ℕ) (e : Entry) → Supports w v x y e → Strongest w v x y e.strength
 supports_strongest w v x y e p = path_and_cut w v x y e.strength e.cut e.path (some p.path) p.cut
   where
-    some : ((e.path ≡ []) × (e.strength ≡ 0)) ⊎ Shows w (below v) x y e.strength e.path → 0 < e.strength → Shows w (below v) x y e.strength e.path
+    some : ShowsStrength w v x y e.strength e.path → 0 < e.strength → Shows w (below v) x y e.strength e.path
     some (inl (none, z)) h = absurd (let f : ⊥ = omega arith in f)
     some (inr shows) h = shows
 

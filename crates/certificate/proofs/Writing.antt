@@ -2,7 +2,7 @@
 use Rattle.std.proofs.Common.{◌≡◌, ℕ, ◌+◌, List, [], ◌++◌, length, refl, ◌∙◌, append_assoc, arith, length-append}
 use Rattle.std.proofs.lemmas.List.{append-nil}
 use Rattle.certificate.specs.declared.writer.Writer.{Writer}
-use Rattle.certificate.specs.Layout.{number_size, set_size, Entry, entry_bytes, set_bytes}
+use Rattle.certificate.specs.Layout.{number_size, set_size, Entry, path_bytes, entry_bytes, set_bytes}
 use Rattle.certificate.specs.inner.Progress.{HasRoom, Writes}
 
 -- nothing, and some behind others
@@ -42,5 +42,5 @@ left_second {ps} {qs} l w =
 
 -- how long an entry is
 pub entry_length : (e : Entry) → length (entry_bytes e) ≡ number_size + 1 + length e.path + set_size
-unfolding entry_bytes
+unfolding entry_bytes path_bytes
 entry_length e = omega (arith, length-append e.path (set_bytes e.cut))

@@ -1,9 +1,8 @@
 -- The certificate that is written, and what the call leaves in the lent slices. Assumes nothing.
-use Rattle.std.specs.Prelude.{◌≡◌, ℕ, ◌+◌, ◌-◌, ◌*◌, if◌then◌else◌, List, map, length, Some, None, Option, nat_lt}
+use Rattle.std.specs.Prelude.{◌≡◌, ℕ, List, map, length, Option}
 use Rattle.std.specs.Option.{option_or}
 use Rattle.ballots.specs.declared.refusal.Lent.TheVariants as lent
 use Rattle.ballots.specs.declared.refusal.Refusal.{Refusal}
-use Rattle.ballots.specs.declared.refusal.Refusal.TheVariants.{Short}
 use Rattle.ballots.specs.Format.{candidates_in}
 use Rattle.ballots.specs.Loans.{slice_after, no_room}
 use Rattle.ballots.specs.Refusals.{refusal}
@@ -15,7 +14,7 @@ use Rattle.paths.specs.Middles.{strength, row}
 use Rattle.paths.specs.Cuts.{cut}
 use Rattle.best.specs.Comparisons.{best_by}
 use Rattle.certificate.specs.declared.certification.Certified.{Certified}
-use Rattle.certificate.specs.Layout.{number_size, set_size, Entry, table_size, certificate_of}
+use Rattle.certificate.specs.Layout.{Entry, certificate_of}
 
 -- what is claimed of the pair x, y by the wins w: the strength, a strongest path, and the cut that is nearest to x
 abbrev pub entry_of : (ℕ → ℕ → ℕ) → ℕ → ℕ → ℕ → Entry
@@ -32,19 +31,11 @@ certificate_by v n = certificate_of v n (entries_by (win_by n) v) (best_by (stre
 abbrev pub strengths_by : ℕ → (ℕ → ℕ → ℕ) → List ℕ
 strengths_by v n = rows v (strength (win_by n) v)
 
--- no certificate of v candidates that is written is longer: an entry for each pair, with all candidates on its path
-abbrev pub longest : ℕ → ℕ
-longest v = table_size v + v * (v - 1) * (number_size + 1 + v + set_size) + set_size
-
--- the slice that is lent for a certificate of v candidates has no room for the longest one
-abbrev pub no_sheet_room : ℕ → List ℕ → Option Refusal
-no_sheet_room v sheet = if nat_lt (length sheet) (longest v) then Some (Short lent.Sheet) else None
-
 -- why counts are not certified: a slice that is lent for the table, the strengths or the certificate is too short
 abbrev pub room_refusal : ℕ → (ℕ → ℕ → ℕ) → List ℕ → List ℕ → List ℕ → Option Refusal
 room_refusal v n table strengths sheet =
     option_or (no_room lent.Table (rows v n) table)
-    (option_or (no_room lent.Strengths (strengths_by v n) strengths) (no_sheet_room v sheet))
+    (option_or (no_room lent.Strengths (strengths_by v n) strengths) (no_room lent.Sheet (certificate_by v n) sheet))
 
 -- why the ballots in the bytes are refused, or else why their counts are not certified
 abbrev pub certify_refusal : List ℕ → List ℕ → List ℕ → List ℕ → Option Refusal

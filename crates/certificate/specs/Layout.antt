@@ -30,9 +30,13 @@ pub record Entry : Type 0 where
   pub path : List ℕ
   pub cut : ℕ
 
--- the strength, how many candidates the path has, the candidates first to last, and the cut
+-- the strength, how many candidates the path has, and the candidates first to last
+unfoldable pub path_bytes : ℕ → List ℕ → List ℕ
+path_bytes s row = number_bytes s ++ (length row ∷ row)
+
+-- and behind them the cut
 unfoldable pub entry_bytes : Entry → List ℕ
-entry_bytes e = number_bytes e.strength ++ (length e.path ∷ (e.path ++ set_bytes e.cut))
+entry_bytes e = path_bytes e.strength e.path ++ set_bytes e.cut
 
 -- the number of candidates and the table: n x y of each pair, row by row
 unfoldable pub table_bytes : ℕ → (ℕ → ℕ → ℕ) → List ℕ

@@ -11,7 +11,8 @@ number_at bs p = from_le_bytes number_width (take number_size (drop p bs))
 unfoldable pub set_at : List ℕ → ℕ → ℕ
 set_at bs p = from_le_bytes set_width (take set_size (drop p bs))
 
--- of an entry that starts at p: where its path starts, how many candidates that has, where the cut starts, where the entry ends
+-- of an entry that starts at p: where its path starts, how many candidates that has, where the cut starts,
+-- where the entry ends
 abbrev pub path_place : ℕ → ℕ
 path_place p = p + number_size + 1
 

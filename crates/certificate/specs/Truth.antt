@@ -23,9 +23,13 @@ pub record TrueTo (bytes sheet : List ℕ) : Type 0 where
       StrengthsAreTrue (win_by (counts_of bytes)) (candidates_in bytes) (entries_in (candidates_in bytes) sheet)
   pub best : BestSet (win_by (counts_of bytes)) (candidates_in bytes) (set_at sheet (length sheet - set_size))
 
--- the entry of the pair x, y is as said: its path shows the strength, or is of nobody where that is 0, and its cut bounds it
+-- the row is a path from x to y of the strength s, or it is of nobody and s is 0
+abbrev pub ShowsStrength : (ℕ → ℕ → ℕ) → ℕ → ℕ → ℕ → ℕ → List ℕ → Type 0
+ShowsStrength w v x y s row = ((row ≡ []) × (s ≡ 0)) ⊎ Shows w (below v) x y s row
+
+-- the entry of the pair x, y is as said: its path shows the strength, and its cut bounds it
 pub record Supports (w : ℕ → ℕ → ℕ) (v x y : ℕ) (e : Entry) : Type 0 where
-  pub path : ((e.path ≡ []) × (e.strength ≡ 0)) ⊎ Shows w (below v) x y e.strength e.path
+  pub path : ShowsStrength w v x y e.strength e.path
   pub cut : Cut w v x y e.strength e.cut
 
 -- each entry of the pairs is

@@ -7,15 +7,15 @@ ghost use Rattle.pairwise.specs.Grids.{number_for};
 ghost use Rattle.pairwise.specs.Pairwise.{counts_of};
 ghost use Rattle.best.specs.Comparisons.{BestSet};
 ghost use Rattle.certificate.specs.Judge.{judge};
-ghost use Rattle.certificate.specs.Certified.{longest, room_refusal, certify_refusal, certified_by, Leaves};
+ghost use Rattle.certificate.specs.Certified.{room_refusal, certify_refusal, certified_by, Leaves};
 
 use crate::writer::write_certificate;
-use crate::{Counted, NUMBER_SIZE, Number, SET_SIZE};
+use crate::{Counted, Number};
 use ballots::{BallotFile, CandidateSet, Lent, Refusal};
 use best::best;
-use pairwise::{Grid, Pairwise};
+use pairwise::Pairwise;
 
-// What is answered of ballots that were certified: their number, the set of the best, and the length of the certificate.
+// What is answered of ballots that were certified: their number, the set of the best, and the certificate's length.
 #[derive(Clone, Copy)]
 pub struct Certified {
     pub ballots: u16,
@@ -23,37 +23,26 @@ pub struct Certified {
     pub length: usize,
 }
 
-// How many bytes the longest certificate takes: with all candidates on the path of each pair.
-fn longest(counts: &Grid) -> usize
-    ensures { result ≡ longest counts.now.candidates }
-{
-    let candidates = counts.candidates;
-    let pairs = candidates * (candidates - 1);
-    1 + candidates * candidates * NUMBER_SIZE
-        + pairs * (NUMBER_SIZE + 1 + candidates + SET_SIZE)
-        + SET_SIZE
-}
-
 // Whether the slices have room for the table, the strengths and the certificate.
-#[tactic(auto, using(crate::proofs::Certifying::room))]
 fn check_room(
-    counts: &Grid,
+    counted: &Counted,
     table: &[Number],
     strengths: &[Number],
     sheet: &[u8],
 ) -> Result<(), Refusal>
-    ensures { let v = counts.now.candidates in
-        let n = number_for counts.now in
-        result ≡ result_of (room_refusal v n table.now strengths.now sheet.now) tt }
+    ensures { let g = counted.now.pairwise.counts in
+        let refused = room_refusal g.candidates (number_for g) table.now strengths.now sheet.now in
+        result ≡ result_of refused tt }
 {
-    let numbers = counts.candidates * counts.candidates;
+    let candidates = counted.pairwise.counts.candidates;
+    let numbers = candidates * candidates;
     if table.len() < numbers {
         return Err(Refusal::Short(Lent::Table));
     }
     if strengths.len() < numbers {
         return Err(Refusal::Short(Lent::Strengths));
     }
-    if sheet.len() < longest(counts) {
+    if sheet.len() < counted.sheet_length() {
         return Err(Refusal::Short(Lent::Sheet));
     }
     Ok(())
@@ -80,7 +69,7 @@ pub fn certify_strengths(
     ensures best { let g = counted.now.pairwise.counts in
         IfOk result (λ c. BestSet (win_by (number_for g)) g.candidates c.best) }
 {
-    check_room(&counted.pairwise.counts, table, strengths, sheet)?;
+    check_room(counted, table, strengths, sheet)?;
     counted.pairwise.copy_to(table)?;
     counted.strengths.copy_to(strengths)?;
     let best = best(&counted.strengths);
@@ -101,7 +90,8 @@ pub fn certify(
 ) -> Result<Certified, Refusal>
     ensures answer { let bs = bytes.now in
         let refused = certify_refusal bs table.old strengths.old sheet.old in
-        result ≡ result_of refused (certified_by (ballots_in bs) (candidates_in bs) (counts_of bs)) }
+        let certified = certified_by (ballots_in bs) (candidates_in bs) (counts_of bs) in
+        result ≡ result_of refused certified }
     ensures slices { let bs = bytes.now in
         let refused = certify_refusal bs table.old strengths.old sheet.old in
         Leaves refused (candidates_in bs) (counts_of bs)

@@ -49,8 +49,9 @@ fn crosses(pairwise: &Pairwise, set: CandidateSet, strength: Number, a: usize, b
 
 // Whether nobody in the set wins against somebody outside with more than the strength.
 fn is_tight(pairwise: &Pairwise, set: CandidateSet, strength: Number) -> bool
-    ensures { let v = pairwise.now.counts.candidates in
-        result ≡ list_all (λ ab. not (crosses (win_in pairwise.now) strength set ab.0 ab.1)) (pairs v) }
+    ensures { let w = win_in pairwise.now in
+        let v = pairwise.now.counts.candidates in
+        result ≡ list_all (λ ab. not (crosses w strength set ab.0 ab.1)) (pairs v) }
 {
     for (a, b) in Pairs::of(pairwise.counts.candidates) {
         if crosses(pairwise, set, strength, a, b) {

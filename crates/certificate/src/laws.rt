@@ -1,7 +1,8 @@
 // What holds of all certificates.
 ghost use Rattle.certificate.specs.Laws.{LongestIs, RoomForAny};
 
-// `LONGEST` is as long as the longest certificate of most candidates, which has room for that of any number of them.
+// A slice of `LONGEST` bytes has room for every certificate.
+#[tactic(auto, using(crate::proofs::Certificates::room_for_any))]
 pub fn longest_has_room()
     ensures longest { LongestIs }
     ensures room { RoomForAny }

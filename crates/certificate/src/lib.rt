@@ -1,4 +1,5 @@
-// The certificate of a count: by one path and one cut for each pair it lets anybody see that the strengths and the best are right.
+// The certificate of a count: by one path and one cut for each pair it lets anybody see that the strengths and the
+// best are right.
 #![tactic(auto)]
 
 use ballots::{MOST_CANDIDATES, ROOM};

@@ -41,7 +41,8 @@ impl<'a> Reader<'a> {
     pub(crate) fn take(&mut self, count: usize) -> Result<&'a [u8], Refusal>
         ensures reads { let end = self.old.at + count in
             Reads (ends_before self.old.sheet.now end) end self.old self.new result }
-        ensures bytes { IfOk result (λ b. b.now ≡ take count (drop self.old.at self.old.sheet.now)) }
+        ensures bytes { let left = drop self.old.at self.old.sheet.now in
+            IfOk result (λ b. b.now ≡ take count left) }
     {
         let bytes = self.sheet[self.at..].get(..count).ok_or(self.too_short())?;
         self.at += count;

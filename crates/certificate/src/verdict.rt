@@ -1,5 +1,6 @@
 // Checking a certificate against the ballots.
-ghost use Rattle.std.specs.Prelude.{◌≡◌, ◌↔◌, Ok, IfOk};
+ghost use Rattle.std.specs.Prelude.{◌≡◌, ◌↔◌, ℕ, Ok, Err, IfOk};
+ghost use Rattle.ballots.specs.declared.refusal.Refusal.TheVariants.{Path, Cut};
 ghost use Rattle.ballots.specs.Loans.{result_of};
 ghost use Rattle.pairwise.specs.Grids.{number_for};
 ghost use Rattle.pairwise.specs.Pairwise.{win_in};
@@ -8,6 +9,7 @@ ghost use Rattle.paths.specs.Paths.{IsPair};
 ghost use Rattle.paths.specs.Strengths.{GridOf};
 ghost use Rattle.certificate.specs.Judge.{end_refusal, sheet_refusal, judge};
 ghost use Rattle.certificate.specs.Truth.{TrueTo, AsSaid};
+ghost use Rattle.certificate.specs.Refused.{RefusedAtPath, RefusedAtCut};
 ghost use Rattle.certificate.specs.inner.Parts.{table_of};
 ghost use Rattle.certificate.specs.inner.Progress.{Passes, ReadsEntry, ReadsEntries};
 
@@ -101,11 +103,13 @@ fn check_against(pairwise: &Pairwise, sheet: &[u8]) -> Result<(), Refusal>
 
 // Accepts the certificate of the ballots that the bytes hold, or answers the first refusal: of the ballots, then of
 // the certificate, front to back. What is accepted has the true strengths and the true best, and is accepted with any
-// paths and cuts that are as said.
+// paths and cuts that are as said. What is refused at the path or at the cut of a pair is as said up to there.
 pub fn check(bytes: &[u8], sheet: &[u8]) -> Result<(), Refusal>
     ensures verdict { result ≡ result_of (judge bytes.now sheet.now) tt }
     ensures truth { result ≡ Ok tt → TrueTo bytes.now sheet.now }
     ensures exact { (result ≡ Ok tt) ↔ AsSaid bytes.now sheet.now }
+    ensures path { (x y : ℕ) → (result ≡ Err (Path x y)) ↔ RefusedAtPath bytes.now sheet.now x y }
+    ensures cut { (x y : ℕ) → (result ≡ Err (Cut x y)) ↔ RefusedAtCut bytes.now sheet.now x y }
 {
     let pairwise = Pairwise::of(BallotFile::read(bytes)?);
     check_against(&pairwise, sheet)

@@ -1,7 +1,6 @@
 // Writing a certificate, part by part.
 ghost use Rattle.std.specs.Prelude.{◌≡◌, ◌≤◌, length, None};
 ghost use Rattle.ballots.specs.Loans.{slice_after};
-ghost use Rattle.certificate.specs.Certified.{longest};
 ghost use Rattle.certificate.specs.inner.Parts.{table_of, entry_by, all_entries, best_in, certificate_in};
 ghost use Rattle.certificate.specs.inner.Progress.{HasRoom, Writes};
 
@@ -67,7 +66,7 @@ fn write_entries(strengths: &Strengths, writer: &mut Writer)
 
 // Writes the certificate to the front of the slice, and answers its length.
 pub(crate) fn write_certificate(counted: &Counted, best: CandidateSet, sheet: &mut [u8]) -> usize
-    requires room { longest counted.now.pairwise.counts.candidates ≤ length sheet.old }
+    requires room { length (certificate_in counted.now.pairwise) ≤ length sheet.old }
     requires best { best ≡ best_in counted.now.pairwise }
     ensures length { result ≡ length (certificate_in counted.now.pairwise) }
     ensures sheet { sheet.new ≡ slice_after None sheet.old (certificate_in counted.now.pairwise) }

@@ -31,13 +31,14 @@ Passes bs old new r = Reads (bytes_refusal old.sheet.now old.at bs) (old.at + le
 -- it goes on past the entry of the pair x, y by pairwise counts, or past those of all pairs
 abbrev pub ReadsEntry : Pairwise → ℕ → ℕ → Reader → Reader → Result ℕ Refusal → Type 0
 ReadsEntry t x y old new r =
-    Reads (entry_refusal (win_in t) t.counts.candidates old.sheet.now old.at x y) (entry_end old.sheet.now old.at) old new r
+    let bs : List ℕ = old.sheet.now in
+    Reads (entry_refusal (win_in t) t.counts.candidates bs old.at x y) (entry_end bs old.at) old new r
 
 abbrev pub ReadsEntries : Pairwise → Reader → Reader → Result Grid Refusal → Type 0
 ReadsEntries t old new r =
+    let bs : List ℕ = old.sheet.now in
     let xys : List (ℕ × ℕ) = pairs t.counts.candidates in
-    Reads (entries_refusal (win_in t) t.counts.candidates old.sheet.now old.at xys) (entries_end old.sheet.now old.at xys)
-    old new r
+    Reads (entries_refusal (win_in t) t.counts.candidates bs old.at xys) (entries_end bs old.at xys) old new r
 
 -- there is room for the bytes behind those that are written
 abbrev pub HasRoom : List ℕ → Writer → Type 0

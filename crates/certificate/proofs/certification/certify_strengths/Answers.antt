@@ -12,6 +12,9 @@ returns-in_err-copy_to-2 c =
     let room = has_rooms _ _ _ _ _ c.in_ok-check_room.ensures in
     absurd (copied_never lent.Strengths room.for_strengths (copied_strengths c.args.counted.now c.in_err-copy_to-2.ensures))
 
+pub write_certificate-length-requires-clause-room : goal.write_certificate-length-requires-clause-room
+write_certificate-length-requires-clause-room c = (has_rooms _ _ _ _ _ c.in_ok-check_room.ensures).for_sheet
+
 pub write_certificate-length-requires-clause-best : goal.write_certificate-length-requires-clause-best
 write_certificate-length-requires-clause-best c = best_counted c.args.counted.now c.best-best.ensures
 

@@ -1,31 +1,19 @@
-use Rattle.std.proofs.Common.{◌≡◌, ℕ, ◌≤◌, List, [], ◌++◌, length, drop, sym, refl, ap, ◌∙◌, subst, arith, rules}
-use Rattle.std.specs.List.{flat_map}
-use Rattle.pairwise.specs.Grids.{number_for}
+use Rattle.std.proofs.Common.{◌≡◌, ℕ, ◌≤◌, List, [], ◌++◌, length, drop, sym, refl, ap, ◌∙◌, subst, arith, length-append, rules}
 use Rattle.certificate.specs.declared.counted.Counted.{Counted}
 use Rattle.certificate.specs.declared.writer.Writer.{Writer}
-use Rattle.certificate.specs.Layout.{set_bytes, entry_bytes, certificate_of}
-use Rattle.certificate.specs.Certified.{entries_by, certificate_by, longest}
+use Rattle.certificate.specs.Layout.{set_bytes}
 use Rattle.certificate.specs.inner.Parts.{table_of, all_entries, best_in, certificate_in}
 use Rattle.certificate.specs.inner.Progress.{Writes}
-use Rattle.certificate.proofs.Certificates.{certificate_short}
-use Rattle.certificate.proofs.Certifying.{by_counts}
-use Rattle.certificate.proofs.Tables.{table_length}
+use Rattle.certificate.proofs.Certifying.{in_parts}
 use Rattle.certificate.proofs.Writing.{Left, left_all, left_second, first_fits}
 use Rattle.certificate.proofs.writer.write_certificate.Goals as goal
 
--- the certificate in three parts, of which the last two are left once the table is written
+-- of the certificate in three parts, the last two are left once the table is written
 module _ (c : Counted) where
-  in_parts : certificate_in c.pairwise ≡ table_of c.pairwise ++ (all_entries c.strengths ++ set_bytes (best_in c.pairwise))
-  unfolding certificate_by certificate_of
-  in_parts =
-      ap (λ es. table_of c.pairwise ++ (es ++ set_bytes (best_in c.pairwise)))
-      (by_counts c (λ w v. flat_map entry_bytes (entries_by w v) ≡ all_entries c.strengths) refl)
-
-  entries_left : {a b : Writer} → longest c.pairwise.counts.candidates ≤ length a.sheet.now → a.at ≡ 0 → Writes (table_of c.pairwise) a b →
+  entries_left : {a b : Writer} → length (certificate_in c.pairwise) ≤ length a.sheet.now → a.at ≡ 0 → Writes (table_of c.pairwise) a b →
       Left (all_entries c.strengths ++ set_bytes (best_in c.pairwise)) (certificate_in c.pairwise) a b
   entries_left {a} room start w =
-      let fits = certificate_short c.pairwise.counts.candidates (number_for c.pairwise.counts) in
-      left_second (subst (λ bytes. Left bytes (certificate_in c.pairwise) a a) in_parts (left_all (omega arith))) w
+      left_second (subst (λ bytes. Left bytes (certificate_in c.pairwise) a a) (in_parts c) (left_all (omega arith))) w
 
 -- what is left behind the reference that a writer held
 written : {bs left : List ℕ} {a b : Writer} → a.at ≡ 0 → Writes bs a b →
@@ -35,8 +23,9 @@ written {a = a} start w is =
 
 pub write_table-requires : goal.write_table-requires
 write_table-requires c =
-    let g = c.args.counted.now.pairwise.counts in
-    omega (arith, table_length g.candidates (number_for g))
+    let me = c.args.counted.now in
+    let rest = all_entries me.strengths ++ set_bytes (best_in me.pairwise) in
+    omega (arith, c.requires.room, ap length (in_parts me), length-append (table_of me.pairwise) rest)
 
 pub write_entries-requires : goal.write_entries-requires
 write_entries-requires c =
