@@ -44,7 +44,9 @@ none_taken v c e = record {
 }
 
 -- one ballot more
-takes : (c d : Provisional) (p : List ℕ) → add_refusal c.pairwise p ≡ None → OneMore c.pairwise p d.pairwise → TakesBallot c p d
+takes :
+    (c d : Provisional) (p : List ℕ) → add_refusal c.pairwise p ≡ None → OneMore c.pairwise p d.pairwise →
+    TakesBallot c p d
 takes c d p accepted more =
     let room : c.pairwise.ballots < most_ballots = grind (arith, nat_tests) in
     record {
@@ -59,12 +61,14 @@ takes c d p accepted more =
         ballots = omega (arith, more.ballots, t.ballots, length-append ps (p ∷ []));
         candidates = more.candidates ∙ t.candidates;
         counts = rw (map_push ranks_of ps p)
-            (counted_push v (map ranks_of ps) p (cell c.pairwise.counts.cells) (cell d.pairwise.counts.cells) (more.long ∙ t.candidates) t.counts more.counts);
+            (counted_push v (map ranks_of ps) p (cell c.pairwise.counts.cells) (cell d.pairwise.counts.cells)
+            (more.long ∙ t.candidates) t.counts more.counts);
       };
     }
 
 -- where it is not refused
-pub takes_ok : (c d : Provisional) (p : List ℕ) (r : Result (Unit {0}) Refusal) → r ≡ result_of (add_refusal c.pairwise p) tt →
+pub takes_ok :
+    (c d : Provisional) (p : List ℕ) (r : Result (Unit {0}) Refusal) → r ≡ result_of (add_refusal c.pairwise p) tt →
     OnOk r (OneMore c.pairwise p d.pairwise) → OnOk r (TakesBallot c p d)
 takes_ok c d p (Err e) answer more = tt
 takes_ok c d p (Ok u) answer more = takes c d p (result_of-ok (add_refusal c.pairwise p) tt u (sym answer)).0 more
@@ -97,17 +101,21 @@ module _ (c : Provisional) (v : ℕ) (ps qs : List (List ℕ)) (t : Taken v ps c
   pairwise_taken =
       let g : Grid = c.pairwise.counts in
       let few : v ≤ most_candidates = t.vote.few in
+      let n : ℕ → ℕ → ℕ = count unranked (map ranks_of ps) in
       let free : (x y : ℕ) → count unranked (map ranks_of ps) x y ≡ count unranked (ballots_of bs) x y =
-      λ x y. sym (count_order_free unranked (map ranks_of ps) (map ranks_of qs) x y (IsPermutation-map ranks_of ps qs h))
+      λ x y.
+      sym (count_order_free unranked (map ranks_of ps) (map ranks_of qs) x y (IsPermutation-map ranks_of ps qs h))
       ∙ ap (λ bs. count unranked bs x y) (sym is_file.1) in
       record {
         accepted = is_file.0;
         ballots = as_many;
         candidates = t.candidates;
-        counts = ap (λ n. within n (cell g.cells)) t.candidates
-            ∙ number_for-within v g.cells (count unranked (map ranks_of ps)) few t.counts ∙ (λ i. within v (λ x y. free x y i));
-        outside = subst (λ n. (x y : ℕ) → x < most_candidates → y < most_candidates → cell g.cells x y ≡ within n (cell g.cells) x y) (sym t.candidates)
-            (zero_outside v g.cells (count unranked (map ranks_of ps)) few t.counts);
+        counts = ap (λ v. within v (cell g.cells)) t.candidates
+            ∙ number_for-within v g.cells n few t.counts ∙ (λ i. within v (λ x y. free x y i));
+        outside =
+            subst
+            (λ v. (x y : ℕ) → x < most_candidates → y < most_candidates → cell g.cells x y ≡ within v (cell g.cells) x y)
+            (sym t.candidates) (zero_outside v g.cells n few t.counts);
       }
 
   -- so are the best

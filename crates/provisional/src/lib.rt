@@ -29,7 +29,8 @@ impl Provisional {
 
     // Takes one ballot more, with a rank for each candidate; a refused one changes nothing.
     pub fn add(&mut self, ballot: Ballot<'_>) -> Result<(), Refusal>
-        ensures answer { result ≡ result_of (add_refusal self.old.pairwise ballot.entry.ranks.now) tt }
+        ensures answer { let refused = add_refusal self.old.pairwise ballot.entry.ranks.now in
+            result ≡ result_of refused tt }
         ensures taken { OnOk result (TakesBallot self.old ballot.entry.ranks.now self.new) }
         ensures refused { OnErr result (self.new ≡ self.old) }
     {

@@ -1,7 +1,7 @@
 -- The draw: numbers of ballots, two bytes each, low byte first, and the order of candidates that it makes. Assumes nothing.
-use Rattle.std.specs.Prelude.{ℕ, ◌/◌, ◌%◌, Bool, not, ◌&&◌, ◌||◌, if◌then◌else◌, List, [], ◌∷◌, map, length, take, Some, Option, find, ◌==◌, nat_le, nat_lt, slice_index, slice_index_or}
+use Rattle.std.specs.Prelude.{◌≡◌, ◌≢◌, ◌↔◌, ℕ, ◌+◌, ◌/◌, ◌%◌, ◌<◌, Bool, not, ◌&&◌, ◌||◌, if◌then◌else◌, List, [], ◌∷◌, map, length, take, Some, None, Option, find, ◌==◌, nat_le, nat_lt, slice_index, slice_index_or}
 use Rattle.std.specs.Int.{w16, from_le_bytes}
-use Rattle.std.specs.List.{range_with_len, list_any}
+use Rattle.std.specs.List.{All, AllPairs, range_with_len, list_any}
 use Rattle.std.specs.Option.{option_map}
 use Rattle.std.specs.Simd.{first_chunks}
 use Rattle.ballots.specs.declared.refusal.Refusal.{Refusal}
@@ -43,3 +43,24 @@ before_by_ballots last (p ∷ ps) x y = over last p x y || (not (over last p y x
 -- by any ballots, of two candidates one is before the other, and never both
 abbrev pub BallotsMakeATieBreak : Type 0
 BallotsMakeATieBreak = (last : ℕ) (ps : List (List ℕ)) → IsTieBreak (before_by_ballots last ps)
+
+-- the numbers are those of different ballots of n
+pub record OfDifferentBallots (n : ℕ) (ks : List ℕ) : Type 0 where
+  pub exist : All (λ k. k < n) ks
+  pub once : AllPairs (λ j k. j ≢ k) ks
+
+-- a draw is accepted exactly if its length is even and its numbers are those of different ballots
+abbrev pub DrawsAccepted : Type 0
+DrawsAccepted = (n : ℕ) (draw : List ℕ) →
+    (draw_refusal n draw ≡ None) ↔ ((length draw % 2 ≡ 0) × OfDifferentBallots n (numbers_in draw))
+
+-- the numbers before place i are those of different ballots, and with the number there they are not
+pub record FirstBad (n : ℕ) (ks : List ℕ) (i : ℕ) : Type 0 where
+  pub there : i < length ks
+  pub before : OfDifferentBallots n (take i ks)
+  pub here : OfDifferentBallots n (take (i + 1) ks) → ⊥
+
+-- a draw is refused for its number at place i exactly if its length is even and that is the first bad number
+abbrev pub DrawsRefused : Type 0
+DrawsRefused = (n i : ℕ) (draw : List ℕ) →
+    (draw_refusal n draw ≡ Some (Draw i)) ↔ ((length draw % 2 ≡ 0) × FirstBad n (numbers_in draw) i)

@@ -9,6 +9,7 @@ use Rattle.ballots.specs.Sets.{holds}
 use Rattle.pairwise.specs.Counts.{win}
 use Rattle.pairwise.specs.Pairwise.{counts_of}
 use Rattle.paths.specs.Paths.{below}
+use Rattle.paths.specs.Strengths.{GridOf}
 use Rattle.best.specs.Answers.{BestOf}
 use Rattle.best.specs.Best.{Best}
 use Rattle.best.specs.Order.{OrderOf}
@@ -28,6 +29,7 @@ count_refusal bytes draw table strengths sheet =
 pub record OutcomeOf (bytes draw : List ℕ) (o : Outcome) : Type 0 where
   pub ballots : o.ballots ≡ ballots_in bytes
   pub best : BestOf bytes o.best
+  pub strengths : GridOf (win unranked (ballots_of bytes)) (candidates_in bytes) o.strengths
   pub order : OrderOf (win unranked (ballots_of bytes)) (candidates_in bytes)
       (before_by_ballots unranked (drawn_ballots bytes draw)) o.order
   pub length_is : o.length ≡ length (certificate_by (candidates_in bytes) (counts_of bytes))
@@ -43,7 +45,8 @@ pub record Trusted (bytes sheet : List ℕ) (o : Outcome) : Type 0 where
   pub within : o.length ≤ length sheet
   pub accepted : judge bytes (take o.length sheet) ≡ None
   pub somebody : (x : ℕ) × (x < candidates_in bytes) × (holds o.best x ≡ true)
-  pub adopted : Best (win unranked (ballots_of bytes)) (below (candidates_in bytes)) (slice_index o.order.places.items 0)
+  pub adopted : let first = slice_index o.order.places.items 0 in
+      Best (win unranked (ballots_of bytes)) (below (candidates_in bytes)) first
 
 -- the set of the best in what is answered
 abbrev pub best_part : Result Outcome Refusal → Result ℕ Refusal

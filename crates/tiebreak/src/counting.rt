@@ -4,6 +4,7 @@ ghost use Rattle.ballots.specs.Format.{candidates_in};
 ghost use Rattle.pairwise.specs.Pairwise.{counts_of};
 ghost use Rattle.best.specs.Answers.{CloneIndependent, IndependentByOne};
 ghost use Rattle.certificate.specs.Certified.{Leaves};
+ghost use Rattle.tiebreak.specs.Reports.{report_of, ReportOf};
 ghost use Rattle.tiebreak.specs.Outcomes.{count_refusal, ComesTo, Trusted, best_part};
 
 use crate::Outcome;
@@ -26,7 +27,9 @@ pub fn count(
         ComesTo bytes.now draw.now refused result }
     ensures slices { let v = candidates_in bytes.now in
         let refused = count_refusal bytes.now draw.now table.old strengths.old sheet.old in
-        Leaves refused v (counts_of bytes.now) table.old table.new strengths.old strengths.new sheet.old sheet.new }
+        let n = counts_of bytes.now in
+        Leaves refused v n table.old table.new strengths.old strengths.new sheet.old sheet.new }
+    ensures report { IfOk result (λ o. ReportOf bytes.now draw.now (report_of o)) }
     ensures trusted { IfOk result (λ o. Trusted bytes.now sheet.new o) }
     ensures clones { CloneIndependent bytes.now (best_part result) }
     ensures one { IndependentByOne bytes.now (best_part result) }
@@ -39,6 +42,7 @@ pub fn count(
     Ok(Outcome {
         ballots: certified.ballots,
         best: certified.best,
+        strengths: *counted.strengths.grid(),
         order,
         length: certified.length,
     })

@@ -1,6 +1,5 @@
 // The draw that decides between equals.
-ghost use Rattle.std.specs.Prelude.{◌≡◌, ◌==◌, ◌<◌, if◌then◌else◌, All, nat_lt};
-ghost use Rattle.std.specs.List.{list_any};
+ghost use Rattle.std.specs.Prelude.{◌≡◌, ◌<◌, false, if◌then◌else◌, All, nat_lt, replicate};
 ghost use Rattle.std.specs.Int.{w16, from_le_bytes};
 
 use ballots::{BallotFile, Refusal};
@@ -10,6 +9,9 @@ use std::array;
 // How many bytes a drawn number takes, the low byte first.
 const NUMBER_LENGTH: usize = 2;
 
+// How many numbers can be drawn.
+const NUMBERS: usize = 1 << (8 * NUMBER_LENGTH);
+
 // Ballots of a file, by their numbers, in the order in which they are drawn.
 #[derive(Clone, Copy)]
 pub(crate) struct Draw<'a> {
@@ -18,13 +20,11 @@ pub(crate) struct Draw<'a> {
     ghost exist: { All (λ number. from_le_bytes w16 number < file.ballots) numbers.now },
 }
 
-// Whether one of the numbers is that of the ballot.
-fn is_among(numbers: &[[u8; NUMBER_LENGTH]], ballot: u16) -> bool
-    ensures { result ≡ list_any (λ number. from_le_bytes w16 number == ballot) numbers.now }
+// Nothing is marked.
+fn no_marks() -> [bool; NUMBERS]
+    ensures { result ≡ replicate NUMBERS false }
 {
-    numbers
-        .iter()
-        .any(|number| u16::from_le_bytes(*number) == ballot)
+    [false; NUMBERS]
 }
 
 impl<'a> Draw<'a> {
@@ -39,11 +39,13 @@ impl<'a> Draw<'a> {
         if !rest.is_empty() {
             return Err(Refusal::Length { at: bytes.len() });
         }
+        let mut drawn = no_marks();
         for (place, number) in numbers.iter().enumerate() {
             let ballot = u16::from_le_bytes(*number);
-            if ballot >= file.ballots || is_among(&numbers[..place], ballot) {
+            if ballot >= file.ballots || drawn[usize::from(ballot)] {
                 return Err(Refusal::Draw { place });
             }
+            drawn[usize::from(ballot)] = true;
         }
         Ok(Draw { file, numbers })
     }

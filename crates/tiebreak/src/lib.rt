@@ -5,8 +5,8 @@ mod counting;
 mod draw;
 pub mod laws;
 mod outcome;
-mod reports;
+mod report;
 
 pub use counting::count;
 pub use outcome::Outcome;
-pub use reports::report;
+pub use report::{LONGEST_REPORT, Report};

@@ -19,9 +19,11 @@ before_of d = before_by_ballots unranked (ballots_at d.file.bytes.now (numbers_o
 
 -- r is the draw of these bytes from the ballots of the file, or why it is refused
 abbrev pub DrawnFrom : BallotFile → List ℕ → Result Draw Refusal → Type 0
-DrawnFrom file bytes (Ok d) = (draw_refusal file.ballots bytes ≡ None) × (d.file ≡ file) × (numbers_of d ≡ numbers_in bytes)
+DrawnFrom file bytes (Ok d) =
+    (draw_refusal file.ballots bytes ≡ None) × (d.file ≡ file) × (numbers_of d ≡ numbers_in bytes)
 DrawnFrom file bytes (Err e) = draw_refusal file.ballots bytes ≡ Some e
 
 -- the tie-break order of the candidates is that of the draw
 abbrev pub TieBreakOf : Draw → TieBreak → Type 0
-TieBreakOf d t = (x y : ℕ) → x < d.file.candidates → y < d.file.candidates → before_by t.keys x y ≡ before_of d x y
+TieBreakOf d t =
+    (x y : ℕ) → x < d.file.candidates → y < d.file.candidates → before_by t.keys x y ≡ before_of d x y

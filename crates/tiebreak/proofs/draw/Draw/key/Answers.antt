@@ -11,5 +11,6 @@ returns c =
     let before_x : ℕ → Bool = λ y. before_of c.args.self.now y c.args.x in
     rw (lt-ltb c.args.x v (omega arith))
     (count_from_yields_List c.filter.result c.count.result c.count.ensures.ran
-    (YieldsList-from_filter _ before_x (YieldsList-from_range 0 v v (cc) (omega arith)) c.filter.ensures.closure (λ x r q k. search (rules, tests)))
+    (YieldsList-from_filter _ before_x (YieldsList-from_range 0 v v (cc) (omega arith)) c.filter.ensures.closure
+    (λ x r q k. search (rules, tests)))
     ∙ number_left before_x v)

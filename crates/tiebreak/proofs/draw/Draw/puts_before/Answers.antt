@@ -15,8 +15,10 @@ unwrap-ballot-requires c =
 pub returns-then-is_over : goal.returns-then-is_over
 returns-then-is_over c =
     let d = c.args.self.now in
-    let next = drawn_next d.file.bytes.now d.numbers.now c.args.x c.args.y c.loop-number.number-index c.from-number.result c.get.result
-    c.unwrap-ballot.result (omega arith) (c.from-number.ensures ∙ c.from_le_bytes.ensures) c.get.ensures c.unwrap-ballot.ensures in
+    let number = c.from-number.ensures ∙ c.from_le_bytes.ensures in
+    let next =
+    drawn_next d.file.bytes.now d.numbers.now c.args.x c.args.y c.loop-number.number-index c.from-number.result
+    c.get.result c.unwrap-ballot.result (omega arith) number c.get.ensures c.unwrap-ballot.ensures in
     sym (sym c.loop-number.invariant ∙ next ∙ elim c.then-is_over.branch [
       | then-is_over-via-then-is_over w ↦ grind (arith, nat_tests)
       | then-is_over-via-else-is_over+then-over w ↦ grind (arith, nat_tests)
@@ -25,6 +27,8 @@ returns-then-is_over c =
 pub loop-number-preserved : goal.loop-number-preserved
 loop-number-preserved c =
     let d = c.args.self.now in
-    let next = drawn_next d.file.bytes.now d.numbers.now c.args.x c.args.y c.loop-number.number-index c.from-number.result c.get.result
-    c.unwrap-ballot.result (omega arith) (c.from-number.ensures ∙ c.from_le_bytes.ensures) c.get.ensures c.unwrap-ballot.ensures in
+    let number = c.from-number.ensures ∙ c.from_le_bytes.ensures in
+    let next =
+    drawn_next d.file.bytes.now d.numbers.now c.args.x c.args.y c.loop-number.number-index c.from-number.result
+    c.get.result c.unwrap-ballot.result (omega arith) number c.get.ensures c.unwrap-ballot.ensures in
     sym (next ∙ grind (arith, nat_tests)) ∙ c.loop-number.invariant

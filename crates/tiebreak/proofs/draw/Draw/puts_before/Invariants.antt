@@ -6,4 +6,5 @@ use Rattle.tiebreak.proofs.draw.Draw.puts_before.Given as goal
 
 abbrev pub invariant-loop-number : goal.invariant-loop-number
 invariant-loop-number l =
-    before_by_ballots unranked (drop l.number-index (ballots_at l.self.file.bytes.now (numbers_of l.self))) l.x l.y ≡ before_of l.self l.x l.y
+    let left = drop l.number-index (ballots_at l.self.file.bytes.now (numbers_of l.self)) in
+    before_by_ballots unranked left l.x l.y ≡ before_of l.self l.x l.y

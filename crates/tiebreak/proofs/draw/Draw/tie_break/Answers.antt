@@ -1,4 +1,4 @@
-use Rattle.std.proofs.Common.{◌≡◌, ℕ, ◌<◌, ◌≤◌, Bool, cond, ltb, get_or, ◌∙◌, refl, lt-ltb, arith, rules, tests}
+use Rattle.std.proofs.Common.{◌≡◌, ℕ, ◌<◌, ◌≤◌, Bool, cond, ltb, get_or, ◌∙◌, lt-ltb, arith, rules, tests}
 use Rattle.ballots.specs.Ballots.{unranked}
 use Rattle.ballots.specs.Format.{most_candidates}
 use Rattle.ballots.specs.Sets.{number}
@@ -14,5 +14,7 @@ returns c = λ x y xv yv.
     let few : v ≤ most_candidates = c.args.self.now.file.few in
     let key : ℕ → ℕ = λ x. cond (ltb x v) (number (λ y. before y x) v) 0 in
     let at : (x : ℕ) → x < v → get_or c.from_fn.result x 0 ≡ number (λ y. before y x) v =
-    λ x l. from_fn-at c.from_fn.result key most_candidates x 0 c.from_fn.ensures.items (λ i r q k. search (rules, tests)) (omega arith) ∙ rw (lt-ltb x v l) refl in
+    λ x l.
+    from_fn-at c.from_fn.result key most_candidates x 0 c.from_fn.ensures.items (λ i r q k. search (rules, tests)) (omega arith)
+    ∙ rw (lt-ltb x v l) in
     keys_order before (ballots_make_a_tie_break unranked _) c.from_fn.result v x y xv yv (at x xv) (at y yv)
