@@ -1,0 +1,11 @@
+pub mod Asking
+pub mod CheckCalls
+pub mod CheckViews
+pub mod CountCalls
+pub mod CountViews
+pub mod Drawn
+pub mod DrawnViews
+pub mod Laws
+pub mod Numbers
+pub mod Parts
+pub mod Views
