@@ -1,99 +1,135 @@
 // Counts the ballots of a file, and prints the outcome or why the count is refused.
 #![tactic(auto)]
 
-use certificate::LONGEST;
-use pairwise::CELLS;
-use program::{Failure, Program, read, words, write};
-use std::env::Args;
-use std::fs;
-use std::os::unix::fs::MetadataExt;
-use std::process::ExitCode;
-use std::rt::Files;
-use tiebreak::{count, report};
+mod fronts;
+mod reading;
+mod sheet;
 
-const COUNT: Program<'static> = Program {
+use ballots::{BallotFile, Refusal};
+use calls::{Call, CountRequest, DrawSource};
+use certificate::LONGEST;
+use fronts::count_fronts;
+use pairwise::CELLS;
+use program::{Ending, Fault, Program};
+use reading::{read_ballots, read_draw};
+use sheet::Sheet;
+use std::env::Env;
+use std::path::Path;
+use std::process::ExitCode;
+use std::{env, io, str};
+
+// The system takes no longer path.
+const LONGEST_PATH: usize = 4096;
+
+const COUNT: Program = Program {
     name: "count",
-    words: "BALLOTS [DRAW] [--sheet FILE]",
+    words: "BALLOTS [DRAW] [--sheet FILE] [--drawn N,N,..]",
+    help: "
+Counts the ballots of a file by the Schulze method, and prints the outcome.
+
+  BALLOTS         the file of the ballots
+  DRAW            a file with the numbers of drawn ballots, which decide between equals
+  --drawn N,N,..  drawn ballots as numbers, in place of the file
+  --sheet FILE    writes the sheet, by which anybody can check the outcome, to FILE
+  --help          prints this
+  --version       prints the version
+",
 };
 
-// What is asked for: the files of the ballots and the draw, and where the certificate goes.
-#[derive(Drop)]
-struct Request {
-    ballots: String,
-    draw: Option<String>,
-    sheet: Option<String>,
-}
-
-impl Request {
-    // The word behind `--sheet` is its file, whatever it is, and the last one counts. There is no other option.
-    fn parse(mut words: Args) -> Result<Request, Failure> {
-        let mut ballots = None;
-        let mut draw = None;
-        let mut sheet = None;
-        while let Some(word) = words.next() {
-            if word.as_str() == "--sheet" {
-                sheet = Some(words.next().ok_or(Failure::Usage)?);
-            } else if word.as_str().starts_with("--") {
-                return Err(Failure::Usage);
-            } else if ballots.is_none() {
-                ballots = Some(word);
-            } else if draw.is_none() {
-                draw = Some(word);
-            } else {
-                return Err(Failure::Usage);
-            }
-        }
-        Ok(Request {
-            ballots: ballots.ok_or(Failure::Usage)?,
-            draw,
-            sheet,
-        })
-    }
-
-    // Whether the certificate would be written over a file that is read.
-    fn overwrites(&self, rt: &impl Files) -> bool {
-        let Some(sheet) = &self.sheet else {
-            return false;
-        };
-        let over = |read: &String| is_one_file(rt, sheet.as_str(), read.as_str());
-        over(&self.ballots) || self.draw.as_ref().is_some_and(over)
-    }
-}
-
-// Whether two paths lead to one file that is there.
-fn is_one_file(rt: &impl Files, one: &str, other: &str) -> bool {
-    let (Ok(one), Ok(other)) = (fs::metadata(rt, one), fs::metadata(rt, other)) else {
-        return false;
+// Counts, prints the outcome, and writes the sheet.
+fn count_files<'a>(rt: &HostRuntime, request: &CountRequest<'a>) -> Result<(), Ending<'a>> {
+    let sheet_file = Sheet::find(rt, request)?;
+    let ballots = read_ballots(rt, request.ballots)?;
+    let draw = read_draw(rt, request.draw)?;
+    let line = match request.draw {
+        DrawSource::Words(drawn) => drawn.line(rt.alloc())?,
+        DrawSource::Nowhere | DrawSource::File(_) => String::new(rt.alloc()),
     };
-    one.dev() == other.dev() && one.ino() == other.ino()
-}
-
-fn count_files(rt: &HostRuntime) -> Result<(), Failure> {
-    let request = Request::parse(words(rt)?)?;
-    if request.overwrites(rt) {
-        return Err(Failure::Usage);
-    }
-    let Request {
-        ballots,
-        draw,
-        sheet: sheet_path,
-    } = request;
-    let ballots = read(rt, ballots)?;
-    let draw = match draw {
-        None => Vec::new(rt.alloc()),
-        Some(path) => read(rt, path)?,
-    };
+    let file = BallotFile::read(&ballots).map_err(|refusal| Ending::Refused {
+        file: request.ballots,
+        refusal,
+        fault: Fault::of_ballots(&ballots, refusal),
+    })?;
     let mut table = [0u16; CELLS];
     let mut strengths = [0u16; CELLS];
     let mut sheet = vec![in rt.alloc(); 0u8; LONGEST]?;
-    let outcome = count(&ballots, &draw, &mut table, &mut strengths, &mut sheet)?;
-    rt.print(report(rt.alloc(), &outcome, &strengths)?)?;
-    match sheet_path {
+    let outcome = match count_fronts(&ballots, &draw, &mut table, &mut strengths, &mut sheet) {
+        Ok(outcome) => outcome,
+        Err(refusal) => return Err(refused_draw(request, &draw.bytes, file.ballots, refusal)),
+    };
+    print(rt, outcome.report().as_str())?;
+    print(rt, line.as_str())?;
+    match sheet_file {
         None => Ok(()),
-        Some(path) => write(rt, path, &sheet[0..outcome.length]),
+        Some(file) => file.write(rt, sheet.get(..outcome.length).unwrap_or(&[])),
     }
 }
 
+// The ending of a draw that is refused.
+fn refused_draw<'a>(
+    request: &CountRequest<'a>,
+    draw: &[u8],
+    ballots: u16,
+    refusal: Refusal,
+) -> Ending<'a> {
+    Ending::Refused {
+        file: match request.draw {
+            DrawSource::File(path) => path,
+            DrawSource::Nowhere | DrawSource::Words(_) => "--drawn",
+        },
+        refusal,
+        fault: Fault::of_draw(draw, ballots, refusal),
+    }
+}
+
+fn print<'a>(rt: &HostRuntime, text: &str) -> Result<(), Ending<'a>> {
+    rt.print(text).map_err(|error| Ending::unprinted(&error))
+}
+
+// Says how the program ends, and answers the status. Where standard output cannot be written, that is said too.
+fn say(rt: &HostRuntime, called: &str, ending: Ending) -> u8 {
+    let said = COUNT.said(called, ending);
+    let printed = rt.print(&said.out);
+    let _ = rt.eprint(&said.err);
+    match printed {
+        Ok(()) => said.status,
+        Err(error) => {
+            let said = COUNT.said(called, Ending::unprinted(&error));
+            let _ = rt.eprint(&said.err);
+            said.status
+        }
+    }
+}
+
+fn run<'a>(rt: &HostRuntime, words: &'a [String]) -> Ending<'a> {
+    match CountRequest::parse(words) {
+        None => Ending::WrongCall,
+        Some(Call::Help) => Ending::Help,
+        Some(Call::Version) => Ending::Version,
+        Some(Call::Run(request)) => match count_files(rt, &request) {
+            Ok(()) => Ending::Done(""),
+            Err(ending) => ending,
+        },
+    }
+}
+
+// The words behind the program's name.
+fn words(rt: &HostRuntime) -> io::Result<Vec<String>> {
+    let mut words = Vec::new(rt.alloc());
+    for word in env::args(rt)?.skip(1) {
+        words.push(word)?;
+    }
+    Ok(words)
+}
+
 fn main(rt: HostRuntime) -> ExitCode {
-    COUNT.end(&rt, count_files(&rt))
+    let mut room = [0; LONGEST_PATH];
+    let length = rt.arg(0, &mut room).unwrap_or(0);
+    let path = str::from_utf8(room.get(..length).unwrap_or(&[])).unwrap_or("");
+    let called = Path::new(path).file_name().unwrap_or(COUNT.name);
+    let status = match words(&rt) {
+        Err(error) => say(&rt, called, Ending::of_words(&error)),
+        Ok(words) => say(&rt, called, run(&rt, &words)),
+    };
+    ExitCode::from(status)
 }

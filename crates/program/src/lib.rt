@@ -1,11 +1,18 @@
-// What the programs share that are given files: the words of the call, why one ends early, how it says so, and files read
-// and written whole.
+// What the programs share: why one ends, what it says then, and files of which the front is kept.
 #![tactic(auto)]
 
-mod call;
-mod failure;
-mod files;
+mod ending;
+mod fault;
+mod front;
+mod phrase;
+mod program;
+mod reason;
+mod said;
 
-pub use call::words;
-pub use failure::{Failure, Program};
-pub use files::{read, write};
+pub use ending::Ending;
+pub use fault::Fault;
+pub use front::{BALLOTS_KEPT, DRAW_KEPT, Front, SHEET_KEPT, read_counted, read_front};
+pub use phrase::Phrase;
+pub use program::{Program, VERSION};
+pub use reason::Reason;
+pub use said::{Said, Text};
