@@ -2,7 +2,7 @@
 use crate::votes::{CIRCLE, EVEN, Vote};
 use certificate::LONGEST;
 use pairwise::CELLS;
-use tiebreak::{count, report};
+use tiebreak::count;
 
 // A count by its name, its vote and its draw.
 const DRAWS: [(&str, Vote, &[u8]); 9] = [
@@ -23,7 +23,7 @@ fn print_count(rt: &HostRuntime, name: &str, bytes: &[u8], draw: &[u8]) -> anyho
     let mut sheet = vec![in rt.alloc(); 0u8; LONGEST]?;
     println!(rt; "{name}:")?;
     match count(bytes, draw, &mut table, &mut strengths, &mut sheet) {
-        Ok(outcome) => rt.print(report(rt.alloc(), &outcome, &strengths)?)?,
+        Ok(outcome) => rt.print(outcome.report().as_str())?,
         Err(refusal) => println!(rt; "{refusal}")?,
     }
     Ok(())
@@ -67,8 +67,8 @@ pub fn all(rt: &HostRuntime) -> anyhow::Result<()> {
         even.get(..3).unwrap_or(&[]),
         &[1],
     )?;
-    print_short(rt, 3, 4, 31)?;
-    print_short(rt, 4, 3, 31)?;
-    print_short(rt, 4, 4, 30)?;
-    print_short(rt, 4, 4, 31)
+    print_short(rt, 3, 4, 27)?;
+    print_short(rt, 4, 3, 27)?;
+    print_short(rt, 4, 4, 26)?;
+    print_short(rt, 4, 4, 27)
 }
