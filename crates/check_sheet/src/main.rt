@@ -4,7 +4,7 @@
 use ballots::BallotFile;
 use calls::{Call, CheckRequest};
 use certificate::check;
-use program::{BALLOTS_KEPT, Ending, Fault, Program, SHEET_KEPT, read_front};
+use program::{Ending, Fault, Program, read_ballots, read_sheet};
 use std::env::Env;
 use std::path::Path;
 use std::process::ExitCode;
@@ -26,14 +26,13 @@ Checks the sheet of a count against the ballots, and prints that it is accepted 
 ",
 };
 
-fn read<'a>(rt: &HostRuntime, path: &'a str, most: u64) -> Result<Vec<u8>, Ending<'a>> {
-    let read = || read_front(rt.alloc(), fs::open(rt, path)?, most);
-    read().map_err(|error| Ending::unread(path, &error))
-}
-
 fn check_files<'a>(rt: &HostRuntime, request: &CheckRequest<'a>) -> Result<(), Ending<'a>> {
-    let ballots = read(rt, request.ballots, BALLOTS_KEPT)?;
-    let sheet = read(rt, request.sheet, SHEET_KEPT)?;
+    let ballots = fs::open(rt, request.ballots)
+        .and_then(|file| read_ballots(rt.alloc(), file))
+        .map_err(|error| Ending::unread(request.ballots, &error))?;
+    let sheet = fs::open(rt, request.sheet)
+        .and_then(|file| read_sheet(rt.alloc(), file))
+        .map_err(|error| Ending::unread(request.sheet, &error))?;
     let file = BallotFile::read(&ballots).map_err(|refusal| Ending::Refused {
         file: request.ballots,
         refusal,

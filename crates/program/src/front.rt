@@ -1,19 +1,19 @@
 // Files of which no more is kept than can matter.
 ghost use Rattle.std.specs.Prelude.{◌≡◌, ℕ, List, ◌++◌, IfOk, IfSome, OnOk, take, length, vec_items};
-ghost use Rattle.program.specs.Fronts.{IsFront};
+ghost use Rattle.program.specs.Fronts.{IsFront, ballots_kept, sheet_kept, draw_kept};
 
 use std::alloc::{AllocError, Global};
 use std::io;
 use std::io::{ErrorKind, Read};
 
 // How much of a file of ballots is kept: one byte more than the longest that can be accepted.
-pub const BALLOTS_KEPT: u64 = 3 + 65535 * 30 + 1;
+const BALLOTS_KEPT: u64 = 3 + 65535 * 30 + 1;
 
 // The same of a sheet, whose paths have up to 255 candidates.
-pub const SHEET_KEPT: u64 = 1 + 30 * 30 * 2 + 30 * 29 * (7 + 255) + 4 + 1;
+const SHEET_KEPT: u64 = 1 + 30 * 30 * 2 + 30 * 29 * (7 + 255) + 4 + 1;
 
 // How much of a draw is kept: 65,536 numbers, of which one is no ballot's or comes twice.
-pub const DRAW_KEPT: usize = 2 * 65536;
+const DRAW_KEPT: usize = 2 * 65536;
 
 // How many bytes are read at a time where they are counted.
 const CHUNK: usize = 8192;
@@ -26,7 +26,7 @@ pub struct Front {
 }
 
 // The front of what the reader gives: as many bytes as are kept at the most.
-pub fn read_front<R: Read + Drop>(heap: Global, reader: R, most: u64) -> io::Result<Vec<u8>>
+fn read_front<R: Read + Drop>(heap: Global, reader: R, most: u64) -> io::Result<Vec<u8>>
     ensures { IfOk result (λ bytes. IfSome (R.remaining reader) (λ all. bytes.items ≡ take most all)) }
 {
     let mut bytes = Vec::new(heap);
@@ -47,7 +47,7 @@ impl Front {
 }
 
 // The same, and how much the reader gives in all. What is not kept is read and counted.
-pub fn read_counted<R: Read + Drop>(heap: Global, mut reader: R, most: usize) -> io::Result<Front>
+fn read_counted<R: Read + Drop>(heap: Global, mut reader: R, most: usize) -> io::Result<Front>
     ensures { IfOk result (λ front. IfSome (R.remaining reader) (λ all. IsFront most all front)) }
 {
     let mut front = Front {
@@ -64,4 +64,25 @@ pub fn read_counted<R: Read + Drop>(heap: Global, mut reader: R, most: usize) ->
         }
     }
     Err(io::Error::from(ErrorKind::FileTooLarge))
+}
+
+// What is kept of a file of ballots.
+pub fn read_ballots<R: Read + Drop>(heap: Global, reader: R) -> io::Result<Vec<u8>>
+    ensures { IfOk result (λ bytes. IfSome (R.remaining reader) (λ all. bytes.items ≡ take ballots_kept all)) }
+{
+    read_front(heap, reader, BALLOTS_KEPT)
+}
+
+// What is kept of a sheet.
+pub fn read_sheet<R: Read + Drop>(heap: Global, reader: R) -> io::Result<Vec<u8>>
+    ensures { IfOk result (λ bytes. IfSome (R.remaining reader) (λ all. bytes.items ≡ take sheet_kept all)) }
+{
+    read_front(heap, reader, SHEET_KEPT)
+}
+
+// What is kept of a draw, and how long it is.
+pub fn read_draw<R: Read + Drop>(heap: Global, reader: R) -> io::Result<Front>
+    ensures { IfOk result (λ front. IfSome (R.remaining reader) (λ all. IsFront draw_kept all front)) }
+{
+    read_counted(heap, reader, DRAW_KEPT)
 }

@@ -11,7 +11,7 @@ mod said;
 
 pub use ending::Ending;
 pub use fault::Fault;
-pub use front::{BALLOTS_KEPT, DRAW_KEPT, Front, SHEET_KEPT, read_counted, read_front};
+pub use front::{Front, read_ballots, read_draw, read_sheet};
 pub use phrase::Phrase;
 pub use program::{Program, VERSION};
 pub use reason::Reason;
