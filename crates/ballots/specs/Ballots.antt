@@ -1,10 +1,9 @@
 -- What one ballot says: a rank for each candidate, and who is over whom. Assumes nothing.
 use Rattle.std.specs.Prelude.{ℕ, Bool, if◌then◌else◌, List, map, ◌==◌, nat_lt, slice_index_or}
-use Rattle.ballots.specs.declared.ballot.TheConstants.{UNRANKED}
 
 -- what an unranked candidate is read as: below every rank
 abbrev pub unranked : ℕ
-unranked = UNRANKED
+unranked = 256
 
 -- a rank as it is read
 abbrev pub rank_of : ℕ → ℕ

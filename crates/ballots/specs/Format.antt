@@ -2,20 +2,19 @@
 use Rattle.std.specs.Prelude.{ℕ, ◌+◌, ◌*◌, List, [], ◌∷◌, ◌++◌, map, length, take, drop, slice_index}
 use Rattle.std.specs.Int.{w16, to_le_bytes, from_le_bytes}
 use Rattle.std.specs.List.{range_with_len, flat_map}
-use Rattle.ballots.specs.declared.file.TheConstants.{MOST_CANDIDATES, MOST_BALLOTS, HEADER_LENGTH}
 use Rattle.ballots.specs.Ballots.{ranks_of}
 
 -- the greatest number of candidates
 abbrev pub most_candidates : ℕ
-most_candidates = MOST_CANDIDATES
+most_candidates = 30
 
 -- the greatest number of ballots
 abbrev pub most_ballots : ℕ
-most_ballots = MOST_BALLOTS
+most_ballots = 65535
 
 -- how many bytes stand before the ballots
 abbrev pub header_length : ℕ
-header_length = HEADER_LENGTH
+header_length = 3
 
 -- the number of candidates
 abbrev pub candidates_in : List ℕ → ℕ

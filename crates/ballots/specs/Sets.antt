@@ -2,7 +2,6 @@
 use Rattle.std.specs.Prelude.{◌≡◌, ℕ, zero, suc, ◌+◌, ◌^◌, ◌<◌, Bool, true, false, if◌then◌else◌, ◌&&◌, List, filter, ◌==◌}
 use Rattle.std.specs.List.{range_with_len}
 use Rattle.std.specs.Int.{bit_at}
-use Rattle.ballots.specs.declared.candidate_set.TheConstants.{ROOM}
 
 -- the candidate i is in the set
 unfoldable pub holds : ℕ → ℕ → Bool
@@ -29,7 +28,7 @@ members f n = filter f (range_with_len 0 n)
 
 -- how many candidates a set has room for
 abbrev pub room : ℕ
-room = ROOM
+room = 32
 
 -- x is the smallest member of the set
 pub record FirstOf (set x : ℕ) : Type 0 where
