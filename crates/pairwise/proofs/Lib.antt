@@ -1,5 +1,6 @@
 pub mod Cells
 pub mod Preferences
+pub mod AddedRows
 pub mod Growth
 pub mod Wins
 pub mod Rows

@@ -47,14 +47,31 @@ pub(crate) fn add_ballot(recent: &mut [u8; RECENT], ballot: Ballot<'_>)
     }
 }
 
+// The same, straight in the counts: for a ballot that comes alone bytes would not pay.
+pub(crate) fn add_to_counts(counts: &mut [u16; CELLS], ballot: Ballot<'_>)
+    requires few { length ballot.ranks.now ≤ most_candidates }
+    requires room { (x y : ℕ) → x < most_candidates → y < most_candidates →
+        cell counts.old x y < most_ballots }
+    ensures { (x y : ℕ) → x < most_candidates → y < most_candidates →
+        cell counts.new x y ≡ cell counts.old x y + preference ballot.entry.ranks.now x y }
+{
+    let keys = keys_of(ballot);
+    for (x, key) in keys[..ballot.ranks.len()].iter().enumerate() {
+        for (y, other) in keys[..MOST_CANDIDATES].iter().enumerate() {
+            counts[x * MOST_CANDIDATES + y] += u16::from(key < other);
+        }
+    }
+}
+
 // Adds the counts of the last ballots to those of the ballots before.
 pub(crate) fn add_recent(counts: &mut [u16; CELLS], recent: &[u8; RECENT])
     requires room { BothBounded most_ballots counts.old recent.now }
     ensures { (x y : ℕ) → x < most_candidates → y < most_candidates →
         cell counts.new x y ≡ cell counts.old x y + byte recent.now x y }
 {
-    for i in 0..CELLS {
-        let more = recent[i / MOST_CANDIDATES * ROW + i % MOST_CANDIDATES];
-        counts[i] += u16::from(more);
+    for x in 0..MOST_CANDIDATES {
+        for y in 0..MOST_CANDIDATES {
+            counts[x * MOST_CANDIDATES + y] += u16::from(recent[x * ROW + y]);
+        }
     }
 }

@@ -1,7 +1,7 @@
 // The pairwise counts of ballots, and what they say of two candidates.
 ghost use Rattle.pairwise.specs.Grids.{Bounded};
 
-use crate::additions::{RECENT, add_ballot, add_recent};
+use crate::additions::add_to_counts;
 use crate::counter::Counter;
 use crate::{CELLS, Grid};
 use ballots::{Ballot, BallotFile, Lent, MOST_BALLOTS, MOST_CANDIDATES, Refusal};
@@ -72,9 +72,7 @@ impl Pairwise {
                 at: ranks.min(candidates),
             });
         }
-        let mut one = [0u8; RECENT];
-        add_ballot(&mut one, ballot);
-        add_recent(&mut self.counts.cells, &one);
+        add_to_counts(&mut self.counts.cells, ballot);
         self.ballots += 1;
         Ok(())
     }
