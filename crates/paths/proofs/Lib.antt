@@ -5,4 +5,5 @@ pub mod Rows
 pub mod Crossings
 pub mod Phases
 pub mod Grids
+pub mod Lasts
 pub mod Parts

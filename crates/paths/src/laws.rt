@@ -1,14 +1,16 @@
 // What holds of the paths of any wins.
-ghost use Rattle.paths.specs.Laws.{OneStrength, RowShowsStrongest, CutBounds, PathAndCut};
+ghost use Rattle.paths.specs.Laws.{OneStrength, ViaStrongest, RowShowsStrongest, PathShown, CutBounds, PathAndCut};
 
 // Each two candidates have one strength, that of the strongest path.
 pub fn strengths_hold()
-    ensures { OneStrength }
+    ensures one { OneStrength }
+    ensures strongest { ViaStrongest }
 {}
 
-// The row of a pair is a strongest path, with no candidate twice.
+// The row of a pair is a strongest path, with no candidate twice, and so is the path among any candidates that stand.
 pub fn paths_hold()
-    ensures { RowShowsStrongest }
+    ensures row { RowShowsStrongest }
+    ensures path { PathShown }
 {}
 
 // No path is stronger than the wins across a cut.

@@ -11,7 +11,7 @@ ghost use Rattle.paths.specs.inner.Fields.{HasStrengths, HasMiddles, last_below}
 
 use crate::search;
 use arrayvec::ArrayVec;
-use ballots::{CandidateSet, Lent, MOST_CANDIDATES, Refusal};
+use ballots::{Bits, CandidateSet, Lent, MOST_CANDIDATES, Refusal};
 use pairwise::{CELLS, Grid};
 
 // The wins, which may be any numbers, the strength of each pair, and for each pair the candidates that bettered it as the
@@ -26,16 +26,16 @@ pub struct Strengths {
     ghost has_middles: { HasMiddles (number_for wins) wins.candidates middles },
 }
 
-// The last candidate below the limit that is in the set.
+// The last candidate below the limit that is in the set: the highest bit of those below.
 fn last_below(set: CandidateSet, limit: usize) -> Option<usize>
     ensures { result ≡ last_below set limit }
 {
-    for candidate in (0..limit).rev() {
-        if set.contains(candidate) {
-            return Some(candidate);
-        }
+    let lower = set.bits() & CandidateSet::all_below(limit).bits();
+    if lower == 0 {
+        None
+    } else {
+        Some((Bits::BITS - 1 - lower.leading_zeros()) as usize)
     }
-    None
 }
 
 impl Strengths {
