@@ -6,7 +6,7 @@ use Rattle.paths.specs.Middles.{via}
 use Rattle.paths.proofs.Walks.{starts, ends}
 use Rattle.paths.proofs.Via.{strength_path, path_strength}
 use Rattle.best.specs.Best.{Ahead, Best}
-use Rattle.best.specs.Laws.{BestUnbeaten}
+use Rattle.best.specs.Laws.{AheadByVia, BestByVia, BestUnbeaten}
 
 module _ (w : ℕ → ℕ → ℕ) (here : ℕ → Bool) (v : ℕ) (bound : Within here v) where
   -- ahead is: stronger than back
@@ -38,6 +38,13 @@ module _ (w : ℕ → ℕ → ℕ) (here : ℕ → Bool) (v : ℕ) (bound : With
     λ y m pos p.
         strength_path w here m v x y hx (starts p) (omega (arith, path_strength w here v bound p, f y (starts p))),
   )
+
+pub ahead_by_via : AheadByVia
+ahead_by_via w here v x y bound hx hy = (ahead_strength w here v bound, strength_ahead w here v bound x y hx hy)
+
+pub best_by_via : BestByVia
+best_by_via w here v x bound hx =
+    (λ b y hy. best_strength w here v bound x y hy b, strength_best w here v bound x hx)
 
 pub best_unbeaten : BestUnbeaten
 best_unbeaten w here v x bound hx = (

@@ -2,6 +2,7 @@
 -- proof is owed. Assumes nothing.
 use Rattle.std.specs.Prelude.{◌≡◌, ℕ, ◌<◌, ◌≤◌, Bool, true, false, ◌&&◌, ◌≢◌, ◌↔◌, if◌then◌else◌, ◌==◌}
 use Rattle.paths.specs.Paths.{below, Within}
+use Rattle.paths.specs.Middles.{via}
 use Rattle.paths.specs.Strengths.{StrengthOf}
 use Rattle.best.specs.Best.{Ahead, Best, OnlyBest, BestIn}
 
@@ -11,11 +12,23 @@ AheadByStrength =
     (w : ℕ → ℕ → ℕ) (v x y s t : ℕ) → StrengthOf w v x y s → StrengthOf w v y x t →
     Ahead w (below v) x y ↔ (t < s)
 
+-- the same among any candidates that stand
+abbrev pub AheadByVia : Type 0
+AheadByVia =
+    (w : ℕ → ℕ → ℕ) (here : ℕ → Bool) (v x y : ℕ) → Within here v → here x ≡ true → here y ≡ true →
+    Ahead w here x y ↔ (via w here v y x < via w here v x y)
+
 -- x is among the best exactly if no strength to x is above the strength back
 abbrev pub BestByStrength : Type 0
 BestByStrength =
     (w : ℕ → ℕ → ℕ) (v x : ℕ) → x < v →
     Best w (below v) x ↔ ((y s t : ℕ) → StrengthOf w v x y s → StrengthOf w v y x t → t ≤ s)
+
+-- the same among any candidates that stand
+abbrev pub BestByVia : Type 0
+BestByVia =
+    (w : ℕ → ℕ → ℕ) (here : ℕ → Bool) (v x : ℕ) → Within here v → here x ≡ true →
+    Best w here x ↔ ((y : ℕ) → here y ≡ true → via w here v y x ≤ via w here v x y)
 
 -- x is among the best exactly if nobody is ahead of x
 abbrev pub BestUnbeaten : Type 0

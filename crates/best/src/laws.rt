@@ -9,12 +9,14 @@ ghost use Rattle.best.specs.Worked as Worked;
 
 // Ahead is what comparing the strengths of two candidates says.
 pub fn ahead_by_strength_holds()
-    ensures { Laws.AheadByStrength }
+    ensures strengths { Laws.AheadByStrength }
+    ensures among { Laws.AheadByVia }
 {}
 
 // Best is what comparing strengths says, and that nobody is ahead.
 pub fn best_by_strength_holds()
     ensures strengths { Laws.BestByStrength }
+    ensures among { Laws.BestByVia }
     ensures unbeaten { Laws.BestUnbeaten }
 {}
 
