@@ -13,7 +13,7 @@ use Rattle.best.specs.Answers.{BestOf}
 use Rattle.best.specs.declared.order.Order.{Order}
 use Rattle.best.specs.Best.{Ahead, Best}
 use Rattle.best.specs.Comparisons.{BestSet}
-use Rattle.best.specs.Order.{OrderOf}
+use Rattle.best.specs.Order.{row_of, OrderOf}
 use Rattle.best.proofs.Places.{full_like}
 
 -- where the wins among those that stand are the same, so are the best, and who is ahead
@@ -54,5 +54,6 @@ module _ (bs : List ℕ) where
     candidates = r.candidates;
     once = r.once;
     row = full_like _ _ before after (λ x y. ahead_rewin same) (λ x y. ahead_rewin back)
-        (below (candidates_in bs)) o.places.items (λ x y hx hy. e x y (below_in _ x hx) (below_in _ y hy)) r.row;
+        (below (candidates_in bs)) (row_of o) (λ x y hx hy. e x y (below_in _ x hx) (below_in _ y hy)) r.row;
+    behind = r.behind;
   }

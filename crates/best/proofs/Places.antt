@@ -1,7 +1,8 @@
 -- The full order: there is one, its first is among the best, and whoever is ahead stands before.
-use Rattle.std.proofs.Common.{◌≡◌, ℕ, zero, suc, ◌<◌, Bool, true, List, [], ◌∷◌, length, get_or, sym, refl, ◌∙◌, inl, inr, arith}
+use Rattle.std.proofs.Common.{◌≡◌, ℕ, zero, suc, ◌+◌, ◌<◌, ◌≤◌, Bool, true, List, [], ◌∷◌, ◌++◌, length, drop, replicate, get_or, sym, refl, ◌∙◌, inl, inr, arith}
 use Rattle.std.proofs.lemmas.Bool.{cases_eq, and_parts}
 use Rattle.std.proofs.lemmas.Bool.Decides.{nat_tests}
+use Rattle.std.proofs.lemmas.List.{get_or-drop}
 use Rattle.std.proofs.lemmas.List.Sums.{sum_by-cons}
 use Rattle.paths.proofs.Walks.{starts}
 use Rattle.best.specs.Best.{Ahead}
@@ -88,3 +89,14 @@ ahead_stands_before w here before = stands_before (Ahead w here) before here
 
 pub each_stands_once : EachStandsOnce
 each_stands_once w here before = each_once (Ahead w here) before here
+
+-- behind a row that zeros follow there is 0
+pub zero_behind : (xs : List ℕ) (n m i : ℕ) → length xs ≤ i → get_or (xs ++ drop n (replicate m zero)) i zero ≡ zero
+zero_behind [] n m i l = get_or-drop n (replicate m zero) i zero ∙ zeros m (n + i)
+  where
+    zeros : (m k : ℕ) → get_or (replicate m zero) k zero ≡ zero
+    zeros zero k = refl
+    zeros (suc m) zero = refl
+    zeros (suc m) (suc k) = zeros m k
+zero_behind (x ∷ xs) n m zero l = absurd (let f : ⊥ = omega arith in f)
+zero_behind (x ∷ xs) n m (suc i) l = zero_behind xs n m i (omega arith)

@@ -1,5 +1,5 @@
 -- The full order of the candidates, made from the front. Assumes nothing.
-use Rattle.std.specs.Prelude.{◌≡◌, ℕ, ◌<◌, Bool, true, not, ◌&&◌, ◌≢◌, List, [], ◌∷◌, length, slice_index, ◌==◌}
+use Rattle.std.specs.Prelude.{◌≡◌, ℕ, ◌<◌, Bool, true, not, ◌&&◌, ◌≢◌, List, [], ◌∷◌, length, take, slice_index, ◌==◌, ◌≤◌}
 use Rattle.std.specs.Bool.{if◌then◌else◌}
 use Rattle.std.specs.List.{count_by}
 use Rattle.paths.specs.Paths.{below, Within}
@@ -30,11 +30,20 @@ FullOrder ahead before left (x ∷ xs) = Next ahead before left x × FullOrder a
 abbrev pub EachOnce : (ℕ → Bool) → List ℕ → Type 0
 EachOnce here row = (x : ℕ) → count_by (λ y. y == x) row ≡ (if here x then 1 else 0)
 
+-- the candidates of an order, first to last
+abbrev pub row_of : Order → List ℕ
+row_of o = take o.candidates o.places
+
+-- behind the candidates all is 0
+abbrev pub IsZeroBehind : Order → Type 0
+IsZeroBehind o = (i : ℕ) → o.candidates ≤ i → slice_index o.places i ≡ 0
+
 -- by the wins w, the order is the full order of the candidates below v
 pub record OrderOf (w : ℕ → ℕ → ℕ) (v : ℕ) (before : ℕ → ℕ → Bool) (o : Order) : Type 0 where
-  pub candidates : length o.places.items ≡ v
-  pub once : EachOnce (below v) o.places.items
-  pub row : FullOrder (Ahead w (below v)) before (below v) o.places.items
+  pub candidates : o.candidates ≡ v
+  pub once : EachOnce (below v) (row_of o)
+  pub row : FullOrder (Ahead w (below v)) before (below v) (row_of o)
+  pub behind : IsZeroBehind o
 
 -- in a full order each of those that stand is once, and nobody else
 abbrev pub EachStandsOnce : Type 0

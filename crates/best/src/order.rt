@@ -1,44 +1,38 @@
-// The full order of the candidates.
-ghost use Rattle.ballots.specs.Sets.{holds};
-ghost use Rattle.pairwise.specs.Grids.{number_for};
-ghost use Rattle.best.specs.Order.{OrderOf};
-ghost use Rattle.best.specs.TieBreak.{before_by};
-ghost use Rattle.best.specs.inner.NextPlace.{NextOf};
+// The candidates in an order.
+ghost use Rattle.std.specs.Prelude.{◌≤◌};
+ghost use Rattle.ballots.specs.Format.{most_candidates};
 
-use crate::TieBreak;
-use crate::comparisons::unbeaten;
 use arrayvec::ArrayVec;
-use ballots::{CandidateSet, MOST_CANDIDATES};
-use paths::Strengths;
+use ballots::MOST_CANDIDATES;
 
-// The candidates, first to last.
-#[derive(Clone, Drop)]
+// The candidates, first to last, and 0 behind them.
+#[derive(Clone, Copy)]
 pub struct Order {
-    pub places: ArrayVec<usize, MOST_CANDIDATES>,
+    pub candidates: usize,
+    pub places: [usize; MOST_CANDIDATES],
+    ghost few: { candidates ≤ most_candidates },
 }
 
-// Of the candidates that are left and of whom no left one is ahead, the first in the tie-break order.
-fn next(strengths: &Strengths, tie_break: &TieBreak, left: CandidateSet) -> Option<usize>
-    ensures { let g = strengths.now.wins in
-        NextOf (number_for g) g.candidates (before_by tie_break.now.keys) (holds left) result }
-{
-    let strengths = strengths.grid();
-    (0..strengths.candidates)
-        .filter(|x| left.contains(*x) && unbeaten(strengths, left, *x))
-        .fold(None, |found, x| Some(tie_break.earlier(found, x)))
-}
+impl Order {
+    ghost use Rattle.std.specs.Prelude.{◌≡◌, length};
+    ghost use Rattle.best.specs.Order.{row_of, IsZeroBehind};
 
-// The full order, made from the front: of the candidates that are left, among those of whom no other left one is
-// ahead, the first in the tie-break order comes next.
-pub fn full_order(strengths: &Strengths, tie_break: &TieBreak) -> Order
-    ensures { let g = strengths.now.wins in
-        OrderOf (number_for g) g.candidates (before_by tie_break.now.keys) result }
-{
-    let mut left = CandidateSet::all_below(strengths.wins.candidates);
-    let mut places = ArrayVec::new();
-    while let Some(x) = next(strengths, tie_break, left) {
-        places.push(x);
-        left.remove(x);
+    // The order in which the candidates of the row stand.
+    pub(crate) fn of(row: &ArrayVec<usize, MOST_CANDIDATES>) -> Order
+        ensures candidates { result.candidates ≡ length row.now.items }
+        ensures row { row_of result ≡ row.now.items }
+        ensures behind { IsZeroBehind result }
+    {
+        let candidates = row.len();
+        let mut places = [0; MOST_CANDIDATES];
+        places[..candidates].copy_from_slice(row.as_slice());
+        Order { candidates, places }
     }
-    Order { places }
+
+    // The candidates, first to last.
+    pub fn as_slice(&self) -> &[usize]
+        ensures { result.now ≡ row_of self.now }
+    {
+        &self.places[..self.candidates]
+    }
 }

@@ -39,7 +39,7 @@ fn print_set(rt: &HostRuntime, set: CandidateSet) -> anyhow::Result<()> {
 }
 
 fn print_order(rt: &HostRuntime, order: &Order) -> anyhow::Result<()> {
-    for x in order.places.iter() {
+    for x in order.as_slice() {
         print!(rt; " {x}")?;
     }
     Ok(())

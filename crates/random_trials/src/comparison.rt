@@ -31,7 +31,7 @@ fn cut_agrees(strengths: &Strengths, slow: &SlowCount<'_>, x: usize, y: usize) -
 fn orders_agree(strengths: &Strengths, slow: &SlowCount<'_>, tie_break: &TieBreak) -> bool {
     let counted = best::full_order(strengths, tie_break);
     let expected = slow.order(Tie::Keys(&tie_break.keys));
-    counted.places.as_slice() == expected.as_slice()
+    counted.as_slice() == expected.as_slice()
 }
 
 // Whether the strengths, paths and cuts of all pairs and the best agree.

@@ -38,7 +38,7 @@ fn draw(random: &mut Random, ballots: u16) -> Result<Vec<u8>, AllocError> {
 // Whether the outcome is that of the slow count, and the certificate as it should be.
 fn agrees(slow: &SlowCount<'_>, draw: Draw<'_>, outcome: &Outcome, sheet: &[u8]) -> bool {
     let written = sheet.get(..outcome.length).unwrap_or(&[]);
-    outcome.order.places.as_slice() == slow.order(Tie::Drawn(draw)).as_slice()
+    outcome.order.as_slice() == slow.order(Tie::Drawn(draw)).as_slice()
         && slow.is_best_set(u64::from(outcome.best.bits()))
         && is_as_said(slow, written, Passing::Once)
 }
@@ -64,7 +64,7 @@ impl Tally {
         ) {
             Ok(outcome) => {
                 let by_number = slow.order(Tie::Keys(&[]));
-                let decisive = outcome.order.places.as_slice() != by_number.as_slice();
+                let decisive = outcome.order.as_slice() != by_number.as_slice();
                 self.decisive = self.decisive.saturating_add(u16::from(decisive));
                 Ok(draw.is_from(slow.file) && agrees(slow, draw, &outcome, &sheet))
             }

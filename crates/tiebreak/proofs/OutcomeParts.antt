@@ -16,7 +16,7 @@ use Rattle.paths.proofs.Walks.{in_below, below_in, rewin}
 use Rattle.best.specs.declared.tie_break.TieBreak.{TieBreak}
 use Rattle.best.specs.Best.{Ahead, Best}
 use Rattle.best.specs.Comparisons.{BestSet}
-use Rattle.best.specs.Order.{FullOrder, all_but}
+use Rattle.best.specs.Order.{row_of, FullOrder, all_but}
 use Rattle.best.specs.TieBreak.{before_by}
 use Rattle.best.proofs.Maximal.{some_best}
 use Rattle.best.proofs.Places.{first_is_best}
@@ -63,7 +63,7 @@ module _ {bs draw : List ℕ} {file : BallotFile} {t : Pairwise} (p : Parts bs d
   same_order d tie from numbers same x y xv yv =
       let bytes : d.file.bytes.now ≡ bs = ap (λ (f : BallotFile). f.bytes.now) from ∙ p.is in
       let v : d.file.candidates ≡ candidates_in bs = d.file.said_candidates ∙ ap candidates_in bytes in
-      same x y (omega (arith, v)) (omega (arith, v)) ∙ rw (bytes, numbers)
+      same.order x y (omega (arith, v)) (omega (arith, v)) ∙ rw (bytes, numbers)
 
   -- the count is answered and refused as the certificate is, and so it leaves the slices
   module _ (table strengths sheet : List ℕ) where
@@ -109,7 +109,7 @@ trusted bs draw o sheet rest some is e accepted = record {
   within = rw (e, length-append) (omega (arith, is.length_is));
   accepted = accepted;
   somebody = somebody (win unranked (ballots_of bs)) (candidates_in bs) o.best some is.best.best;
-  adopted = first_place (win unranked (ballots_of bs)) (candidates_in bs) _ o.order.places.items some is.order.row;
+  adopted = first_place (win unranked (ballots_of bs)) (candidates_in bs) _ (row_of o.order) some is.order.row;
 }
 
 -- the wins by the counts of a file are those of its ballots
@@ -161,7 +161,7 @@ report_says bs draw o small is =
     let v : ℕ = o.strengths.candidates in
     let same : candidates_in bs ≡ v = sym is.strengths.candidates in
     let before : ℕ → ℕ → Bool = before_by_ballots unranked (drawn_ballots bs draw) in
-    let places : List ℕ = o.order.places.items in
+    let places : List ℕ = row_of o.order in
     let grid : GridOf w v o.strengths = subst (λ n. GridOf w n o.strengths) same is.strengths in
     let best : BestSet w v o.best = subst (λ n. BestSet w n o.best) same is.best.best in
     let order : FullOrder (Ahead w (below v)) before (below v) places =

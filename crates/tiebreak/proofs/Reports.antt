@@ -19,7 +19,7 @@ use Rattle.tiebreak.specs.declared.outcome.Outcome.{Outcome}
 use Rattle.paths.proofs.Walks.{below_in, starts, ends, weaken}
 use Rattle.best.specs.Best.{Ahead, Best}
 use Rattle.best.specs.Comparisons.{BestSet}
-use Rattle.best.specs.Order.{FullOrder}
+use Rattle.best.specs.Order.{row_of, FullOrder}
 use Rattle.tiebreak.specs.Reports.{numbers_text, best_line, ahead_line, ahead_lines, order_line, lines_of, report_of, IsAheadBy, IsAheadLine, Says}
 use Rattle.tiebreak.proofs.Lines.{Plain, lines_of_text, line_plain, ahead_line_injective}
 
@@ -179,7 +179,7 @@ module _
         is_ahead a b x y there back ex ey et eb pair l
 
     -- every line is plain
-    module _ (ballots : o.ballots < 2 ^ 64) (places : All (λ x. x < 2 ^ 64) o.order.places.items) where
+    module _ (ballots : o.ballots < 2 ^ 64) (places : All (λ x. x < 2 ^ 64) (row_of o.order)) where
       few : v ≤ most_candidates
       few = o.strengths.few
 
@@ -199,10 +199,10 @@ module _
           subst Plain (sym e) (line_plain (codes "ahead") (x ∷ y ∷ s x y ∷ s y x ∷ []) refl
           (omega (arith, xv), (omega (arith, yv), (strength_small x y p, (strength_small y x (turned p), tt)))))))
 
-      order_plain : Plain (order_line o.order.places.items)
+      order_plain : Plain (order_line (row_of o.order))
       order_plain =
-          line_plain (codes "order") o.order.places.items refl
-          (recursion_from_All (λ x. x < 2 ^ 64) o.order.places.items places)
+          line_plain (codes "order") (row_of o.order) refl
+          (recursion_from_All (λ x. x < 2 ^ 64) (row_of o.order) places)
 
       one_plain : (line : List ℕ) → Plain line → All Plain (line ∷ [])
       one_plain line h = All-from_recursion Plain (line ∷ []) (h, tt)
@@ -211,7 +211,7 @@ module _
       first = best_line o.ballots (members (holds o.best) room)
 
       abbrev last : List ℕ
-      last = order_line o.order.places.items
+      last = order_line (row_of o.order)
 
       pub lines_are : lines (report_of o) ≡ lines_of o
       lines_are =
@@ -253,11 +253,11 @@ module _
 
       pub said :
           (before : ℕ → ℕ → Bool) → BestSet w v o.best →
-          FullOrder (Ahead w (below v)) before (below v) o.order.places.items → Says o.ballots w v before (report_of o)
+          FullOrder (Ahead w (below v)) before (below v) (row_of o.order) → Says o.ballots w v before (report_of o)
       said before best order = record {
         best_listed = members (holds o.best) room;
         between = between;
-        order_listed = o.order.places.items;
+        order_listed = row_of o.order;
         all = lines_are;
         pairs = between_tells;
         best = best_are best;

@@ -12,7 +12,7 @@ use Rattle.paths.specs.Paths.{below}
 use Rattle.paths.specs.Strengths.{GridOf}
 use Rattle.best.specs.Answers.{BestOf}
 use Rattle.best.specs.Best.{Best}
-use Rattle.best.specs.Order.{OrderOf}
+use Rattle.best.specs.Order.{row_of, OrderOf}
 use Rattle.certificate.specs.Certified.{room_refusal, certificate_by}
 use Rattle.certificate.specs.Judge.{judge}
 use Rattle.tiebreak.specs.declared.outcome.Outcome.{Outcome}
@@ -45,7 +45,7 @@ pub record Trusted (bytes sheet : List ℕ) (o : Outcome) : Type 0 where
   pub within : o.length ≤ length sheet
   pub accepted : judge bytes (take o.length sheet) ≡ None
   pub somebody : (x : ℕ) × (x < candidates_in bytes) × (holds o.best x ≡ true)
-  pub adopted : let first = slice_index o.order.places.items 0 in
+  pub adopted : let first = slice_index (row_of o.order) 0 in
       Best (win unranked (ballots_of bytes)) (below (candidates_in bytes)) first
 
 -- the set of the best in what is answered

@@ -10,7 +10,7 @@ use Rattle.pairwise.specs.Grids.{number_for}
 use Rattle.pairwise.specs.Pairs.{pairs}
 use Rattle.paths.specs.Paths.{below, Strongest}
 use Rattle.best.specs.Best.{Ahead, Best}
-use Rattle.best.specs.Order.{FullOrder}
+use Rattle.best.specs.Order.{row_of, FullOrder}
 use Rattle.tiebreak.specs.declared.outcome.Outcome.{Outcome}
 use Rattle.tiebreak.specs.Draws.{drawn_ballots, before_by_ballots}
 
@@ -47,7 +47,7 @@ abbrev pub lines_of : Outcome → List (List ℕ)
 lines_of o =
     best_line o.ballots (members (holds o.best) room)
     ∷ (flat_map (ahead_lines (number_for o.strengths)) (pairs o.strengths.candidates)
-    ++ order_line o.order.places.items ∷ [])
+    ++ order_line (row_of o.order) ∷ [])
 
 -- the report of an outcome
 abbrev pub report_of : Outcome → List ℕ

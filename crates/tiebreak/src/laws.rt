@@ -2,7 +2,7 @@
 ghost use Rattle.tiebreak.specs.Draws.{DrawsAccepted, DrawsRefused, BallotsMakeATieBreak};
 
 // Whatever is drawn, of two candidates one is before the other, and the order is strict.
-pub fn ballots_make_a_tie_break()
+pub fn draw_is_a_tie_break_holds()
     ensures { BallotsMakeATieBreak }
 {}
 

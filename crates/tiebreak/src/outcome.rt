@@ -7,7 +7,7 @@ use best::Order;
 use pairwise::{Grid, Pairs};
 
 // The number of ballots, the set of the best, the strength of each pair, the full order, and the length of the certificate.
-#[derive(Clone, Drop)]
+#[derive(Clone, Copy)]
 pub struct Outcome {
     pub ballots: u16,
     pub best: CandidateSet,
@@ -30,7 +30,7 @@ impl Outcome {
         for (x, y) in Pairs::of(self.strengths.candidates) {
             push_ahead(&mut text, &self.strengths, x, y);
         }
-        push_order(&mut text, self.order.places.as_slice());
+        push_order(&mut text, self.order.as_slice());
         text
     }
 }

@@ -1,9 +1,10 @@
 -- What a draw that is read says. Assumes nothing.
-use Rattle.std.specs.Prelude.{◌≡◌, ℕ, ◌<◌, Bool, List, map, Some, None, Ok, Err, Result}
+use Rattle.std.specs.Prelude.{◌≡◌, ℕ, ◌<◌, ◌≤◌, Bool, List, map, Some, None, Ok, Err, Result, slice_index}
 use Rattle.std.specs.Int.{w16, from_le_bytes}
 use Rattle.ballots.specs.declared.file.BallotFile.{BallotFile}
 use Rattle.ballots.specs.declared.refusal.Refusal.{Refusal}
 use Rattle.ballots.specs.Ballots.{unranked}
+use Rattle.ballots.specs.Sets.{number}
 use Rattle.best.specs.declared.tie_break.TieBreak.{TieBreak}
 use Rattle.best.specs.TieBreak.{before_by}
 use Rattle.tiebreak.specs.declared.draw.Draw.{Draw}
@@ -23,7 +24,8 @@ DrawnFrom file bytes (Ok d) =
     (draw_refusal file.ballots bytes ≡ None) × (d.file ≡ file) × (numbers_of d ≡ numbers_in bytes)
 DrawnFrom file bytes (Err e) = draw_refusal file.ballots bytes ≡ Some e
 
--- the tie-break order of the candidates is that of the draw
-abbrev pub TieBreakOf : Draw → TieBreak → Type 0
-TieBreakOf d t =
-    (x y : ℕ) → x < d.file.candidates → y < d.file.candidates → before_by t.keys x y ≡ before_of d x y
+-- the tie-break order is that of the draw: the key of a candidate is the number of those before it
+pub record TieBreakOf (d : Draw) (t : TieBreak) : Type 0 where
+  pub keys : (x : ℕ) → x < d.file.candidates → slice_index t.keys x ≡ number (λ y. before_of d y x) d.file.candidates
+  pub behind : (x : ℕ) → d.file.candidates ≤ x → slice_index t.keys x ≡ 0
+  pub order : (x y : ℕ) → x < d.file.candidates → y < d.file.candidates → before_by t.keys x y ≡ before_of d x y

@@ -10,7 +10,7 @@ use Rattle.best.specs.TieBreak.{before_by}
 use Rattle.best.specs.inner.NextPlace.{earlier}
 use Rattle.best.proofs.Firsts.{by_keys, first_below, first_folded}
 use Rattle.best.proofs.Making.{next_found}
-use Rattle.best.proofs.order.next.Goals as goal
+use Rattle.best.proofs.ordering.next.Goals as goal
 
 pub returns : goal.returns
 unfolding members
