@@ -1,5 +1,5 @@
 -- The certificate that is written: how long it is, and that what it claims is as said.
-use Rattle.std.proofs.Common.{ℕ, ◌+◌, ◌-◌, ◌*◌, ◌≤◌, List, [], ◌∷◌, ◌++◌, map, length, inl, inr, add-mul, arith, length-append, ◌≡◌, ◌<◌, ◌≢◌, None, refl, subst}
+use Rattle.std.proofs.Common.{ℕ, ◌+◌, ◌-◌, ◌*◌, ◌≤◌, List, [], ◌∷◌, ◌++◌, map, length, inl, inr, add-mul, arith, length-append, ◌≡◌, ◌<◌, ◌≢◌, None, refl, ap, subst}
 use Rattle.std.specs.List.{flat_map, AllByRecursion}
 use Rattle.std.proofs.lemmas.Bool.{cases_lt, le-ltb}
 use Rattle.std.proofs.lemmas.Nat.{mul-le}
@@ -11,7 +11,7 @@ use Rattle.paths.proofs.Parts.{row_shows}
 use Rattle.best.specs.Comparisons.{best_by}
 use Rattle.certificate.specs.Layout.{number_size, set_bytes, set_size, table_bytes, table_size, entry_bytes, certificate_of}
 use Rattle.certificate.specs.Certified.{entry_of, entries_by, certificate_by}
-use Rattle.certificate.specs.Laws.{RoomForAny}
+use Rattle.certificate.specs.Laws.{NoneIsLonger, RoomForAny}
 use Rattle.certificate.proofs.Tables.{table_length}
 use Rattle.certificate.proofs.Writing.{entry_length}
 use Rattle.ballots.specs.Format.{most_candidates, candidates_in}
@@ -61,6 +61,12 @@ certificate_length v n =
     let entries = flat_map entry_bytes (entries_by (win_by n) v) in
     let best = set_bytes (best_by (strength (win_by n) v) v) in
     omega (arith, length-append (table_bytes v n) (entries ++ best), length-append entries best, table_length v n)
+
+pub none_is_longer : NoneIsLonger
+none_is_longer v n =
+    let w = win_by n in
+    let number = ap (λ k. k * (number_size + 1 + v + set_size)) (length_pairs v) in
+    omega (arith, certificate_length v n, parts_short w v (pairs v), number)
 
 pub room_for_any : RoomForAny
 room_for_any v n few =

@@ -1,10 +1,11 @@
 -- The tests of a path and of a cut say what they should.
-use Rattle.std.proofs.Common.{◌≡◌, ℕ, ◌^◌, ◌<◌, ◌≤◌, min, Bool, true, not, eqb, ltb, leb, ◌≢◌, List, [], ◌∷◌, sym, refl, ap, ◌∙◌, inl, inr, arith}
+use Rattle.std.proofs.Common.{◌≡◌, ℕ, ◌^◌, ◌<◌, ◌≤◌, min, Bool, true, false, not, ◌||◌, eqb, ltb, leb, ◌≢◌, List, [], ◌∷◌, sym, refl, ap, ◌∙◌, inl, inr, arith}
 use Rattle.std.specs.List.{AllByRecursion, list_all}
-use Rattle.std.proofs.lemmas.Bool.{cases_Bool, and_parts, and_from, cases_lt, eqb-true, eq-eqb, ltb-true, lt-ltb, le-ltb, not-true, not_from_false, false≢true}
+use Rattle.std.proofs.lemmas.Bool.{cases_Bool, cases_eq, and_parts, and_from, cases_lt, eqb-true, eq-eqb, ltb-true, lt-ltb, le-ltb, not-true, not_from_false, false≢true}
 use Rattle.std.proofs.lemmas.Bool.Decides.{nat_tests}
 use Rattle.ballots.specs.Format.{most_candidates}
-use Rattle.ballots.specs.Sets.{holds, set_of, room}
+use Rattle.ballots.specs.Sets.{holds, set_of, every, room}
+use Rattle.ballots.proofs.Everybody.{every_at, every_all}
 use Rattle.ballots.proofs.Masks.{everybody}
 use Rattle.pairwise.specs.declared.pairwise.Pairwise.{Pairwise}
 use Rattle.pairwise.specs.Counts.{win_by}
@@ -35,6 +36,50 @@ list_all_each f (x ∷ xs) h = let p = and_parts (f x) _ h in (p.0, list_all_eac
 each_list_all : {X : Type 0} (f : X → Bool) (xs : List X) → AllByRecursion (λ x. f x ≡ true) xs → list_all f xs ≡ true
 each_list_all f [] h = refl
 each_list_all f (x ∷ xs) h = and_from (f x) _ h.0 (each_list_all f xs h.1)
+
+-- where one test passes, so does another
+implied : (p q : Bool) → (not p || q) ≡ true → p ≡ true → q ≡ true
+implied true q h _ = h
+implied false q h e = absurd (false≢true e)
+
+implies : (p q : Bool) → (p ≡ true → q ≡ true) → (not p || q) ≡ true
+implies true q h = h refl
+implies false q h = refl
+
+-- nobody in the set wins against somebody outside with more than s: asked of each member, or of all pairs
+module _ (w : ℕ → ℕ → ℕ) (s set v : ℕ) where
+  -- a is no member, or wins so against no candidate
+  abbrev pub is_calm : ℕ → Bool
+  is_calm a = not (holds set a) || every (λ b. not (crosses w s set a b)) v
+
+  abbrev calm_pair : ℕ × ℕ → Bool
+  calm_pair ab = not (crosses w s set ab.0 ab.1)
+
+  calm_at : every is_calm v ≡ true → (a b : ℕ) → a < v → b < v → calm_pair (a, b) ≡ true
+  calm_at h a b la lb = elim (cases_Bool (holds set a)) [
+    | inl ha ↦ every_at (λ b. not (crosses w s set a b)) v b (implied (holds set a) _ (every_at is_calm v a h la) ha) lb
+    | inr ha ↦ rw ha
+  ]
+
+  calm_all : list_all calm_pair (pairs v) ≡ true → every is_calm v ≡ true
+  calm_all h =
+      let each = list_all_each calm_pair (pairs v) h in
+      every_all is_calm v (λ a la.
+      implies (holds set a) _ (λ ha. every_all (λ b. not (crosses w s set a b)) v (λ b lb. elim (cases_eq a b) [
+        | inl e ↦ let hb : holds set b ≡ true = rw e at ha in rw (ha, hb)
+        | inr ne ↦ pairs_at (λ ab. calm_pair ab ≡ true) v each a b la lb ne
+      ])))
+
+  pub calm_pairs : every is_calm v ≡ list_all calm_pair (pairs v)
+  calm_pairs = elim (cases_Bool (every is_calm v)) [
+    | inl e ↦
+        e
+        ∙ sym (each_list_all calm_pair (pairs v) (pairs_each (λ ab. calm_pair ab ≡ true) v (λ a b la lb _. calm_at e a b la lb)))
+    | inr e ↦ elim (cases_Bool (list_all calm_pair (pairs v))) [
+      | inl f ↦ absurd (false≢true (sym e ∙ calm_all f))
+      | inr f ↦ e ∙ sym f
+    ]
+  ]
 
 -- wins of which nobody has one against whoever is no candidate
 module _ (w : ℕ → ℕ → ℕ) (v : ℕ) (none : (a z : ℕ) → v ≤ z → w a z ≡ 0) where

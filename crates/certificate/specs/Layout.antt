@@ -1,5 +1,5 @@
 -- The layout of a certificate: what stands where in its bytes. Assumes nothing.
-use Rattle.std.specs.Prelude.{ℕ, ◌+◌, ◌*◌, List, ◌∷◌, ◌++◌, length}
+use Rattle.std.specs.Prelude.{ℕ, ◌+◌, ◌-◌, ◌*◌, List, ◌∷◌, ◌++◌, length}
 use Rattle.std.specs.Int.{Width, w16, w32, byte_len, to_le_bytes}
 use Rattle.std.specs.List.{flat_map}
 use Rattle.pairwise.specs.Grids.{rows}
@@ -49,3 +49,7 @@ table_size v = 1 + v * v * number_size
 -- the certificate: the number of candidates and the table, the entries of all pairs, and the set of the best
 unfoldable pub certificate_of : ℕ → (ℕ → ℕ → ℕ) → List Entry → ℕ → List ℕ
 certificate_of v n entries best = table_bytes v n ++ (flat_map entry_bytes entries ++ set_bytes best)
+
+-- how long a certificate of v candidates would be with all of them on the path of each pair
+abbrev pub longest : ℕ → ℕ
+longest v = table_size v + v * (v - 1) * (number_size + 1 + v + set_size) + set_size

@@ -1,16 +1,17 @@
 // Certifying a count, in slices that the caller lends: nothing here allocates.
-ghost use Rattle.std.specs.Prelude.{◌≡◌, take, IfOk, None};
-ghost use Rattle.ballots.specs.Format.{candidates_in, ballots_in};
+ghost use Rattle.std.specs.Prelude.{◌≡◌, ◌≤◌, take, IfOk, None};
+ghost use Rattle.ballots.specs.Format.{most_candidates, candidates_in, ballots_in};
 ghost use Rattle.ballots.specs.Loans.{result_of};
 ghost use Rattle.pairwise.specs.Counts.{win_by};
 ghost use Rattle.pairwise.specs.Grids.{number_for};
 ghost use Rattle.pairwise.specs.Pairwise.{counts_of};
 ghost use Rattle.best.specs.Comparisons.{BestSet};
+ghost use Rattle.certificate.specs.Layout.{longest};
 ghost use Rattle.certificate.specs.Judge.{judge};
 ghost use Rattle.certificate.specs.Certified.{room_refusal, certify_refusal, certified_by, Leaves};
 
 use crate::writer::write_certificate;
-use crate::{Counted, Number};
+use crate::{Counted, NUMBER_SIZE, Number, SET_SIZE};
 use ballots::{BallotFile, CandidateSet, Lent, Refusal};
 use best::best;
 use pairwise::Pairwise;
@@ -21,6 +22,16 @@ pub struct Certified {
     pub ballots: u16,
     pub best: CandidateSet,
     pub length: usize,
+}
+
+// How long a certificate of so many candidates would be with all of them on the path of each pair.
+fn longest(candidates: usize) -> usize
+    requires { candidates ≤ most_candidates }
+    ensures { result ≡ longest candidates }
+{
+    let pairs = candidates * candidates.saturating_sub(1);
+    let entry = NUMBER_SIZE + 1 + candidates + SET_SIZE;
+    1 + candidates * candidates * NUMBER_SIZE + pairs * entry + SET_SIZE
 }
 
 // Whether the slices have room for the table, the strengths and the certificate.
@@ -42,7 +53,7 @@ fn check_room(
     if strengths.len() < numbers {
         return Err(Refusal::Short(Lent::Strengths));
     }
-    if sheet.len() < counted.sheet_length() {
+    if sheet.len() < longest(candidates) && sheet.len() < counted.sheet_length() {
         return Err(Refusal::Short(Lent::Sheet));
     }
     Ok(())

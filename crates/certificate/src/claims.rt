@@ -1,14 +1,14 @@
 // Whether what a certificate claims of two candidates is as said: its path and its cut.
 ghost use Rattle.std.specs.Prelude.{◌≡◌, not};
 ghost use Rattle.std.specs.List.{list_all};
-ghost use Rattle.ballots.specs.Sets.{holds};
+ghost use Rattle.ballots.specs.Sets.{holds, every};
 ghost use Rattle.pairwise.specs.Pairs.{pairs};
 ghost use Rattle.pairwise.specs.Pairwise.{win_in};
 ghost use Rattle.certificate.specs.Judge.{weakest_to, is_path, crosses, is_cut};
 
 use crate::Number;
 use ballots::CandidateSet;
-use pairwise::{Pairs, Pairwise};
+use pairwise::Pairwise;
 
 // The weakest of the wins from x over the candidates of the row to y, its last; 0 where the row does not end in y.
 fn weakest_to(pairwise: &Pairwise, y: usize, x: usize, row: &[u8]) -> Number
@@ -47,18 +47,21 @@ fn crosses(pairwise: &Pairwise, set: CandidateSet, strength: Number, a: usize, b
     set.contains(a) && !set.contains(b) && strength < pairwise.win(a, b)
 }
 
+// Whether a wins against nobody outside of the set with more than the strength, or is outside of it.
+fn is_calm(pairwise: &Pairwise, set: CandidateSet, strength: Number, a: usize) -> bool
+    ensures { let t = pairwise.now in
+        result ≡ every (λ b. not (crosses (win_in t) strength set a b)) t.counts.candidates }
+{
+    (0..pairwise.counts.candidates).all(|b| !crosses(pairwise, set, strength, a, b))
+}
+
 // Whether nobody in the set wins against somebody outside with more than the strength.
 fn is_tight(pairwise: &Pairwise, set: CandidateSet, strength: Number) -> bool
     ensures { let w = win_in pairwise.now in
         let v = pairwise.now.counts.candidates in
         result ≡ list_all (λ ab. not (crosses w strength set ab.0 ab.1)) (pairs v) }
 {
-    for (a, b) in Pairs::of(pairwise.counts.candidates) {
-        if crosses(pairwise, set, strength, a, b) {
-            return false;
-        }
-    }
-    true
+    (0..pairwise.counts.candidates).all(|a| !set.contains(a) || is_calm(pairwise, set, strength, a))
 }
 
 // Whether the set has x and not y, and is a cut of the strength.
