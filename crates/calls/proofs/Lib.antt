@@ -1,4 +1,5 @@
 pub mod Digits
 pub mod Pieces
 pub mod Spelling
+pub mod Taking
 pub mod Calls

@@ -1,7 +1,7 @@
 // What `count` is called for.
 ghost use Rattle.std.specs.Prelude.{◌≡◌, map, string_bytes};
-ghost use Rattle.calls.specs.Views.{parts_view, part_view};
-ghost use Rattle.calls.specs.CountCalls.{nothing, file, valued, take, asked, meaning, count_call};
+ghost use Rattle.calls.specs.Views.{part_view};
+ghost use Rattle.calls.specs.CountCalls.{nothing, file, valued, take, asked, count_call};
 ghost use Rattle.calls.specs.CountViews.{seen, Takes, Asks as Called};
 
 use crate::call::Asks;
@@ -124,26 +124,16 @@ impl<'a> Given<'a> {
     }
 }
 
-// What is given and the parts that follow ask for. A recursion, since a loop that assigns what holds references gets no proof.
-fn parse_parts<'a>(given: Given<'a>, parts: Parts<'a>) -> Option<Call<CountRequest<'a>>>
-    ensures { Called result (meaning (seen given.entry) (parts_view parts.entry)) }
-{
-    match parts.split_first() {
-        None => given.end(),
-        Some((part, rest)) => parse_parts(given.take(part)?, rest),
-    }
-}
-
 impl<'a> CountRequest<'a> {
     // What the words behind the program's name ask for; nothing where they are no call.
     pub fn parse(words: &'a [String]) -> Option<Call<CountRequest<'a>>>
         ensures { Called result (count_call (map string_bytes words.now)) }
     {
-        let parts = Parts {
+        let mut parts = Parts {
             grammar: Grammar::Count,
             words,
             only_files: false,
         };
-        parse_parts(Given::nothing(), parts)
+        parts.try_fold(Given::nothing(), Given::take)?.end()
     }
 }

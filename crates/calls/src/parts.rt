@@ -90,3 +90,19 @@ impl<'a> Parts<'a> {
         }
     }
 }
+
+impl<'a> Iterator for Parts<'a> {
+    ghost use Rattle.std.specs.Iterator.{YieldsFirstBy, item_count};
+
+    type Item = Part<'a>;
+
+    ghost next_gives = { YieldsFirstBy part_view parts_view };
+
+    ghost remaining = { item_count parts_view };
+
+    fn next(&mut self) -> Option<Part<'a>> {
+        let (part, rest) = self.split_first()?;
+        *self = rest;
+        Some(part)
+    }
+}
