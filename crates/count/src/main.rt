@@ -45,17 +45,18 @@ fn count_files<'a>(rt: &HostRuntime, request: &CountRequest<'a>) -> Result<(), E
         DrawSource::Words(drawn) => drawn.line(rt.alloc())?,
         DrawSource::Nowhere | DrawSource::File(_) => String::new(rt.alloc()),
     };
-    let file = BallotFile::read(&ballots).map_err(|refusal| Ending::Refused {
-        file: request.ballots,
-        refusal,
-        fault: Fault::of_ballots(&ballots, refusal),
-    })?;
+    // Ballots that are refused take no room for a sheet.
+    let room = if BallotFile::read(&ballots).is_ok() {
+        LONGEST
+    } else {
+        0
+    };
     let mut table = [0u16; CELLS];
     let mut strengths = [0u16; CELLS];
-    let mut sheet = vec![in rt.alloc(); 0u8; LONGEST]?;
+    let mut sheet = vec![in rt.alloc(); 0u8; room]?;
     let outcome = match count_fronts(&ballots, &draw, &mut table, &mut strengths, &mut sheet) {
         Ok(outcome) => outcome,
-        Err(refusal) => return Err(refused_draw(request, &draw.bytes, file.ballots, refusal)),
+        Err(refusal) => return Err(refused(request, &ballots, &draw.bytes, refusal)),
     };
     print(rt, outcome.report().as_str())?;
     print(rt, line.as_str())?;
@@ -65,20 +66,27 @@ fn count_files<'a>(rt: &HostRuntime, request: &CountRequest<'a>) -> Result<(), E
     }
 }
 
-// The ending of a draw that is refused.
-fn refused_draw<'a>(
+// The ending where the count is refused: for the ballots, and where these are accepted for the draw.
+fn refused<'a>(
     request: &CountRequest<'a>,
+    ballots: &[u8],
     draw: &[u8],
-    ballots: u16,
     refusal: Refusal,
 ) -> Ending<'a> {
-    Ending::Refused {
-        file: match request.draw {
-            DrawSource::File(path) => path,
-            DrawSource::Nowhere | DrawSource::Words(_) => "--drawn",
+    match BallotFile::read(ballots) {
+        Err(_) => Ending::Refused {
+            file: request.ballots,
+            refusal,
+            fault: Fault::of_ballots(ballots, refusal),
         },
-        refusal,
-        fault: Fault::of_draw(draw, ballots, refusal),
+        Ok(file) => Ending::Refused {
+            file: match request.draw {
+                DrawSource::File(path) => path,
+                DrawSource::Nowhere | DrawSource::Words(_) => "--drawn",
+            },
+            refusal,
+            fault: Fault::of_draw(draw, file.ballots, refusal),
+        },
     }
 }
 
