@@ -1,9 +1,11 @@
 // Checks a sheet against the ballots of a file, and prints that it is accepted or why it is refused.
 #![tactic(auto)]
 
-use ballots::BallotFile;
+mod fronts;
+
+use ballots::{BallotFile, Refusal};
 use calls::{Call, CheckRequest};
-use certificate::check;
+use fronts::check_fronts;
 use program::{Ending, Fault, Program, read_ballots, read_sheet};
 use std::env::Env;
 use std::path::Path;
@@ -33,16 +35,30 @@ fn check_files<'a>(rt: &HostRuntime, request: &CheckRequest<'a>) -> Result<(), E
     let sheet = fs::open(rt, request.sheet)
         .and_then(|file| read_sheet(rt.alloc(), file))
         .map_err(|error| Ending::unread(request.sheet, &error))?;
-    let file = BallotFile::read(&ballots).map_err(|refusal| Ending::Refused {
-        file: request.ballots,
-        refusal,
-        fault: Fault::of_ballots(&ballots, refusal),
-    })?;
-    check(&ballots, &sheet).map_err(|refusal| Ending::Refused {
-        file: request.sheet,
-        refusal,
-        fault: Fault::of_sheet(&sheet, file.candidates as u8, refusal),
-    })
+    check_fronts(&ballots, &sheet).map_err(|refusal| refused_file(
+        request, &ballots, &sheet, refusal,
+    ))
+}
+
+// The ending of a check that is refused: for the ballots, or else for the sheet.
+fn refused_file<'a>(
+    request: &CheckRequest<'a>,
+    ballots: &[u8],
+    sheet: &[u8],
+    refusal: Refusal,
+) -> Ending<'a> {
+    match BallotFile::read(ballots) {
+        Err(_) => Ending::Refused {
+            file: request.ballots,
+            refusal,
+            fault: Fault::of_ballots(ballots, refusal),
+        },
+        Ok(file) => Ending::Refused {
+            file: request.sheet,
+            refusal,
+            fault: Fault::of_sheet(sheet, file.candidates as u8, refusal),
+        },
+    }
 }
 
 // Says how the program ends, and answers the status. Where standard output cannot be written, that is said too.

@@ -1,0 +1,2 @@
+mod Sheets
+mod Verdicts
