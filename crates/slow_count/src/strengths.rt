@@ -6,7 +6,8 @@ ghost use Rattle.slow_count.specs.Strengths.{strongest, strength};
 use crate::{MOST, Table};
 
 // The strength of the strongest path from x to y that goes on over candidates that were not visited: every next
-// candidate is tried, and every path from there. As many candidates as are left can still be visited.
+// candidate against whom there is a win is tried, and every path from there. As many candidates as are left can still be
+// visited.
 #[cycle(strongest)]
 fn strongest(wins: &Table, x: usize, y: usize, visited: [bool; MOST], left: usize) -> u32
     ensures { result ≡ strongest wins.now y left visited x }
@@ -19,11 +20,12 @@ fn strongest(wins: &Table, x: usize, y: usize, visited: [bool; MOST], left: usiz
     };
     let mut best = 0;
     for z in 0..MOST {
-        if !visited[z] {
+        let win = wins.at(x, z);
+        if win > 0 && !visited[z] {
             let mut passed = visited;
             passed[z] = true;
             let rest = strongest(wins, z, y, passed, left);
-            best = best.max(wins.at(x, z).min(rest));
+            best = best.max(win.min(rest));
         }
     }
     best

@@ -2,19 +2,12 @@ use Rattle.std.proofs.Common.{◌≡◌, ◌∙◌, rules, arith}
 use Rattle.slow_count.specs.declared.table.TheConstants.{MOST}
 use Rattle.slow_count.proofs.Search.{strongest_here, strongest_end, strongest_onward}
 use Rattle.slow_count.proofs.strengths.+strongest.Goals as goal
-use Rattle.slow_count.proofs.strengths.+strongest.Goals.{then-not-visited-z, else-not-visited-z}
 
 pub returns-then-x-y : goal.returns-then-x-y
 returns-then-x-y t c = strongest_here _ _ c.args.left _ _ c.if-x-y.true
 
 pub returns-in_default : goal.returns-in_default
 returns-in_default t c = strongest_end _ _ c.args.left _ _ c.if-x-y.false (omega (arith, c.in_default.ensures))
-
-pub loop-z-preserved : goal.loop-z-preserved
-loop-z-preserved t c = elim c.if-not-visited-z.branch [
-  | then-not-visited-z w ↦ search rules
-  | else-not-visited-z w ↦ search rules
-]
 
 pub returns : goal.returns
 returns t c =
